@@ -1,0 +1,99 @@
+-- The loop that reads a number: at each turn, what is left, resumed from here, is the answer.
+-- Assumes nothing.
+use mathlib.Core.Path.{_≡_, refl, sym, _∙_, ap}
+use mathlib.Core.Bool.{Bool, true, false}
+use mathlib.Core.List.{List, [], _∷_}
+use Prim.Native.Nat.{ℕ, zero, suc, _+_, _-_, _*_, _%_, _^_, _≤_, _<_}
+use native.Mathlib.Nat.{le-of-eq, mod-add-mod, add-mod-mod, mod-mod, add-assoc, zero-add, add-zero}
+use native.Mathlib.Numerals.{add-one}
+use native.Mathlib.Omega.{arith}
+use lib.ListN.{length, take, drop, getD, length-drop, drop-of-length-le}
+use lib.Seq.{drop-cons, take-all}
+use borrow.Author.Needs.{needs}
+use borrow.Author.Tests.{lt-ltb, le-ltb}
+use Rattle.paper.specs.Answer.{Answer, gives, refuses, andThen, pick}
+use Rattle.varint.specs.Leb.{taken, sumFrom, readFrom, readU64}
+use Rattle.varint.specs.Paper.{paperU64}
+use Rattle.varint.specs.declared.ReadU64.{ReadU64}
+use Rattle.varint.specs.declared.ReadU64.the-variants as U
+
+-- the answer from byte i on, with the bytes before it added up to v
+unfoldable pub resume : ℕ → ℕ → Answer (List ℕ) → Answer (ℕ × ℕ)
+resume v i (gives bs) = gives ((v + sumFrom i bs) % 2 ^ 64, i + length bs)
+resume v i (refuses k) = refuses k
+
+pub record Going (s : List ℕ) (v i : ℕ) : Type 0 where
+  pub same : resume v i (taken (10 - i) (drop i s)) ≡ readFrom s
+
+resume-start : (a : Answer (List ℕ)) → resume 0 0 a ≡ andThen a (λ bs. gives (sumFrom 0 bs % 2 ^ 64, length bs))
+unfolding resume andThen
+resume-start (gives bs) = rw (zero-add (sumFrom 0 bs), zero-add (length bs))
+resume-start (refuses k) = refl
+
+pub going-start : (s : List ℕ) → Going s 0 0
+unfolding readFrom
+going-start s = record { same = resume-start (taken 10 s) }
+
+-- one byte more: its seven bits join the sum
+resume-cons : (v i b : ℕ) (a : Answer (List ℕ)) →
+    resume v i (andThen a (λ bs. gives (b ∷ bs))) ≡ resume ((v + b % 128 * 2 ^ (7 * i)) % 2 ^ 64) (i + 1) a
+unfolding resume andThen sumFrom
+resume-cons v i b (gives bs) =
+    let e : i + length (b ∷ bs) ≡ i + 1 + length bs = omega arith in
+    rw (
+      ← add-assoc v (b % 128 * 2 ^ (7 * i)) (sumFrom (i + 1) bs),
+      ← mod-add-mod (v + b % 128 * 2 ^ (7 * i)) (2 ^ 64) (sumFrom (i + 1) bs),
+      e,
+    )
+resume-cons v i b (refuses k) = refl
+
+resume-none : (m i : ℕ) → resume (m % 2 ^ 64) i (gives []) ≡ gives (m % 2 ^ 64, i)
+unfolding resume sumFrom
+resume-none m i = rw (add-zero (m % 2 ^ 64), mod-mod m (2 ^ 64), add-zero i)
+
+module _ (s : List ℕ) {v i : ℕ} (g : Going s v i) where
+  pub going-end : 10 ≤ i → paperU64 (U.Refused 2) ≡ readFrom s
+  unfolding paperU64 resume taken
+  going-end l = let e : 10 - i ≡ 0 = omega arith in rw e at (g .same)
+
+  module _ (t : i < 10) where
+    pub going-short : length s ≤ i → paperU64 (U.Refused 1) ≡ readFrom s
+    unfolding paperU64 resume taken
+    going-short l =
+        let e : 10 - i ≡ suc (9 - i) = omega arith in
+        rw (e, drop-of-length-le s l) at (g .same)
+
+    module _ (h : i < length s) {r : ℕ} (sum : r ≡ (v + getD s i 0 % 128 * 2 ^ (7 * i)) % 2 ^ 64) where
+      pub going-last : getD s i 0 < 128 → paperU64 (U.Value r (i + 1)) ≡ readFrom s
+      unfolding paperU64 taken pick andThen
+      going-last l =
+          let e : 10 - i ≡ suc (9 - i) = omega arith in
+          let f : resume v i (andThen (gives []) (λ bs. gives (getD s i 0 ∷ bs))) ≡ readFrom s
+          = rw (e, drop-cons s i 0, lt-ltb (getD s i 0) 128 l) at (g .same) in
+          rw sum
+          (sym (resume-none (v + getD s i 0 % 128 * 2 ^ (7 * i)) (i + 1)) ∙ sym (resume-cons v i (getD s i 0) (gives [])) ∙ f)
+
+      pub going-more : 128 ≤ getD s i 0 → Going s r (i + 1)
+      unfolding taken pick
+      going-more l =
+          let e : 10 - i ≡ suc (10 - (i + 1)) = omega arith in
+          let d : drop i s ≡ getD s i 0 ∷ drop (i + 1) s = rw (add-one, drop-cons s i 0) in
+          record { same = rw (sum, ← resume-cons v i (getD s i 0)) (rw (e, d, le-ltb (getD s i 0) 128 l) at (g .same)) }
+
+-- the shift drops what passes 64 bits, and so does the sum
+pub grown-wraps : (v b i : ℕ) {w r : ℕ} → w ≡ b → r ≡ (v + (w % 128 * 2 ^ (7 * i)) % 2 ^ 64) % 2 ^ 64 → r ≡ (v + b % 128 * 2 ^ (7 * i)) % 2 ^ 64
+grown-wraps v b i e p = rw (add-mod-mod, e) at p
+
+-- ---- at a position
+pub read-past : (s : List ℕ) (pos : ℕ) → length s ≤ pos → paperU64 (U.Refused 1) ≡ readU64 s pos
+unfolding paperU64 readU64 readFrom taken andThen
+read-past s pos l = rw (drop-of-length-le s l)
+
+take-rest : (s : List ℕ) (pos : ℕ) → take (length s - pos) (drop pos s) ≡ drop pos s
+take-rest s pos = take-all (length s - pos) (drop pos s) (le-of-eq (length-drop pos s))
+
+pub read-at : (s : List ℕ) (pos : ℕ) {a : Answer (ℕ × ℕ)} → a ≡ readFrom (take (length s - pos) (drop pos s)) → a ≡ readU64 s pos
+unfolding readU64
+read-at s pos p = rw (take-rest s pos) at p
+
+pub ruleset reading = (needs, going-start, going-end, going-short, going-last, going-more, grown-wraps, read-past, read-at)

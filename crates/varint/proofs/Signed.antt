@@ -1,0 +1,126 @@
+-- Signed numbers: the 64-bit pattern, ZigZag there and back, and the calls over them.
+-- Assumes nothing.
+use mathlib.Core.Path.{_≡_, refl, sym, _∙_, ap}
+use mathlib.Core.Bool.{Bool, true, false}
+use mathlib.Core.List.{List}
+use Prim.Native.Nat.{ℕ, suc, zero-le, _+_, _-_, _*_, _/_, _%_, _^_, _≤_, _<_}
+use native.Mathlib.Omega.{arith}
+use lib.Dec.{T, ltb, eqb}
+use lib.ListN.{length}
+use lib.IntN.{ℤ, pos, negsuc, natAbs}
+use lib.Signed.{ltZ, nonNeg}
+use mir.Syntax.{w64}
+use mir.Val.{Fits, SFits, ofZ, toZ}
+use mir.ValLaws.{toZ-pos, toZ-neg, toZ-ofZ}
+use borrow.Author.Needs.{needs}
+use borrow.Author.Tests.{ltb-true, ltb-false, eq-eqb, ne-eqb}
+use Rattle.paper.specs.Answer.{Answer, gives, refuses, andThen, pick, put, sizeOf}
+use Rattle.varint.specs.Leb.{readU64, lenU64, writeU64}
+use Rattle.varint.specs.Zigzag.{zigzag, unzigzag}
+use Rattle.varint.specs.Number.{readI64, lenI64, writeI64}
+use Rattle.varint.specs.Paper.{paperU64, paperI64}
+use Rattle.varint.specs.declared.ReadU64.{ReadU64}
+use Rattle.varint.specs.declared.ReadU64.the-variants as U
+use Rattle.varint.specs.declared.ReadI64.{ReadI64}
+use Rattle.varint.specs.declared.ReadI64.the-variants as I
+
+-- what the code's test says: the number is -(n + 1), or n
+below-zero : (z : ℤ) → SFits w64 z → ltZ (toZ w64 (ofZ w64 z)) (toZ w64 0) ≡ true → (n : ℕ) × (z ≡ negsuc n)
+below-zero (pos n) f t = absurd (impossible n (rw (toZ-ofZ w64 (pos n) f) at t))
+  where
+    impossible : (n : ℕ) → ltb n 0 ≡ true → ⊥
+    impossible n t = let l : n < 0 = ltb-true n 0 t in omega arith
+below-zero (negsuc n) f t = (n, refl)
+
+not-below-zero : (z : ℤ) → SFits w64 z → ltZ (toZ w64 (ofZ w64 z)) (toZ w64 0) ≡ false → (n : ℕ) × (z ≡ pos n)
+not-below-zero (pos n) f t = (n, refl)
+not-below-zero (negsuc n) f t = absurd (never (rw (toZ-ofZ w64 (negsuc n) f) at t))
+  where
+    never : true ≡ false → ⊥
+    never e = let z : _≡_ {A = ℕ} 0 1 = cc in omega arith
+
+-- the complement of a negative number's pattern is the number's distance below -1
+flipped : (n : ℕ) → n < 2 ^ 63 → toZ w64 (2 ^ 64 - 1 - ofZ w64 (negsuc n)) ≡ pos n
+flipped n l = let e : 2 ^ 64 - 1 - (2 ^ 64 - suc n) ≡ n = omega arith in rw e (toZ-pos w64 n l)
+
+module _ (z : ℤ) (f : SFits w64 z) (t : ltZ (toZ w64 (ofZ w64 z)) (toZ w64 0) ≡ true) where
+  pub minus-cast :
+      T (nonNeg (toZ w64 (2 ^ 64 - 1 - ofZ w64 z))) × Fits w64 (natAbs (toZ w64 (2 ^ 64 - 1 - ofZ w64 z)))
+  minus-cast =
+      let (n, e) = below-zero z f t in
+      let l : n < 2 ^ 63 = rw e at (f .sfits) in
+      rw (e, flipped n l) (tt, record { fits = omega arith })
+
+  pub minus-doubled : {r : ℕ} →
+      r ≡ (2 ^ 64 - 1 - natAbs (toZ w64 (2 ^ 64 - 1 - ofZ w64 z)) + (2 ^ 64 - 1 - natAbs (toZ w64 (2 ^ 64 - 1 - ofZ w64 z)))) % 2 ^ 64
+      → 2 ^ 64 - 1 - r ≡ zigzag z
+  unfolding zigzag
+  minus-doubled {r} s =
+      let (n, e) = below-zero z f t in
+      let l : n < 2 ^ 63 = rw e at (f .sfits) in
+      let d : r ≡ (2 ^ 64 - 1 - n + (2 ^ 64 - 1 - n)) % 2 ^ 64 = rw (e, flipped n l) at s in
+      rw e (omega arith)
+
+module _ (z : ℤ) (f : SFits w64 z) (t : ltZ (toZ w64 (ofZ w64 z)) (toZ w64 0) ≡ false) where
+  pub plus-cast : T (nonNeg (toZ w64 (ofZ w64 z))) × Fits w64 (natAbs (toZ w64 (ofZ w64 z)))
+  plus-cast =
+      let (n, e) = not-below-zero z f t in
+      let l : n < 2 ^ 63 = rw e at (f .sfits) in
+      rw (toZ-ofZ w64 z f, e) (tt, record { fits = omega arith })
+
+  pub plus-doubled : {r : ℕ} → r ≡ (natAbs (toZ w64 (ofZ w64 z)) + natAbs (toZ w64 (ofZ w64 z))) % 2 ^ 64 → r ≡ zigzag z
+  unfolding zigzag
+  plus-doubled {r} s =
+      let (n, e) = not-below-zero z f t in
+      let l : n < 2 ^ 63 = rw e at (f .sfits) in
+      let d : r ≡ (n + n) % 2 ^ 64 = rw (toZ-ofZ w64 z f, e) at s in
+      rw e (omega arith)
+
+-- ---- ZigZag back
+pub half-even : (u : ℕ) → u < 2 ^ 64 → u % 2 ≡ 0 → toZ w64 (u / 2) ≡ unzigzag u
+unfolding unzigzag pick
+half-even u l e = rw (eq-eqb (u % 2) 0 e) (toZ-pos w64 (u / 2) (omega arith))
+
+pub half-odd : (u : ℕ) → u < 2 ^ 64 → (u % 2 ≡ 0 → ⊥) → toZ w64 (2 ^ 64 - 1 - u / 2) ≡ unzigzag u
+unfolding unzigzag pick
+half-odd u l e =
+    let d : 2 ^ 64 - 1 - u / 2 ≡ 2 ^ 64 - suc (u / 2) = omega arith in
+    rw (ne-eqb (u % 2) 0 e, d) (toZ-neg w64 (u / 2) (omega arith))
+
+-- ---- the calls: the unsigned call, and ZigZag before or after it
+module _ (s : List ℕ) (at : ℕ) {r : ReadU64} (p : paperU64 r ≡ readU64 s at) where
+  pub signed-value : {v n : ℕ} {z : ℤ} → r ≡ U.Value v n → z ≡ unzigzag v → paperI64 (I.Value z n) ≡ readI64 s at
+  unfolding paperU64 paperI64 readI64 andThen
+  signed-value e d = rw (d, ← p, e)
+
+  pub signed-refused : {k : ℕ} → r ≡ U.Refused k → paperI64 (I.Refused k) ≡ readI64 s at
+  unfolding paperU64 paperI64 readI64 andThen
+  signed-refused e = rw (← p, e)
+
+module _ {u : ℕ} (z : ℤ) (f : SFits w64 z) (e : u ≡ zigzag (toZ w64 (ofZ w64 z))) where
+  pub signed-len : {r : ℕ} → r ≡ lenU64 u → r ≡ lenI64 z
+  unfolding lenI64
+  signed-len p = rw (e, toZ-ofZ w64 z f) at p
+
+  pub signed-wrote : {r : Answer ℕ} (room : ℕ) → r ≡ sizeOf (writeU64 u room) → r ≡ sizeOf (writeI64 z room)
+  unfolding writeI64
+  signed-wrote room p = rw (e, toZ-ofZ w64 z f) at p
+
+  pub signed-written : {new : List ℕ} (old : List ℕ) → new ≡ put old (writeU64 u (length old)) → new ≡ put old (writeI64 z (length old))
+  unfolding writeI64
+  signed-written old p = rw (e, toZ-ofZ w64 z f) at p
+
+pub ruleset signed = (
+  needs,
+  minus-cast,
+  minus-doubled,
+  plus-cast,
+  plus-doubled,
+  half-even,
+  half-odd,
+  signed-value,
+  signed-refused,
+  signed-len,
+  signed-wrote,
+  signed-written,
+)

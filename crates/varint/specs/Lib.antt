@@ -1,0 +1,4 @@
+pub mod Leb
+pub mod Zigzag
+pub mod Number
+pub mod Paper

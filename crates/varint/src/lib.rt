@@ -1,0 +1,188 @@
+// Variable-length integers: the port of varint.rs.
+//
+// Unsigned integers are LEB128, little-endian base 128: seven bits a byte, the high bit set while more bytes follow.
+// Signed integers are ZigZag and then LEB128. A read answers the value and the bytes taken, or a refusal's number.
+ghost use mathlib.Core.Path.{_≡_};
+ghost use Prim.Native.Nat.{_+_, _*_, _%_, _^_, _<_, _≤_};
+ghost use lib.ListN.{length};
+ghost use Rattle.paper.specs.Answer.{put, sizeOf};
+ghost use Rattle.varint.specs.Leb.{readFrom, readU64, writeU64, lenU64, lebBytes};
+ghost use Rattle.varint.specs.Zigzag.{zigzag, unzigzag};
+ghost use Rattle.varint.specs.Number.{readI64, writeI64, lenI64};
+ghost use Rattle.varint.specs.Paper.{paperU64, paperI64, paperWrote};
+
+// Upper bound on the bytes of a 64-bit number: seven bits a byte.
+pub const MAX_VARINT_BYTES: usize = 10;
+
+// The nine numbers at which the length grows: 2^7, 2^14, .., 2^63.
+const LIMITS: [u64; 9] = [
+    0x80,
+    0x4000,
+    0x20_0000,
+    0x1000_0000,
+    0x8_0000_0000,
+    0x400_0000_0000,
+    0x2_0000_0000_0000,
+    0x100_0000_0000_0000,
+    0x8000_0000_0000_0000,
+];
+
+// The value and the bytes it took; or a refusal.
+pub enum ReadU64 {
+    Value(u64, usize),
+    Refused(u8),
+}
+
+pub enum ReadI64 {
+    Value(i64, usize),
+    Refused(u8),
+}
+
+// How many bytes were written; or a refusal.
+pub enum Wrote {
+    Bytes(usize),
+    Refused(u8),
+}
+
+fn wide(x: u8) -> u64
+    ensures { λ r. ⌜ r ≡ x ⌝ }
+{
+    x as u64
+}
+
+// A number of k + 1 bytes is below this; the table's one rule.
+fn limit(k: usize) -> u64
+    requires { ⌜ k < 9 ⌝ }
+    ensures { λ r. ⌜ r ≡ 2 ^ (7 * (k + 1)) ⌝ }
+{
+    LIMITS[k]
+}
+
+// Writes the bytes of `value` from the start of `out`, which has room.
+fn write_groups(out: &mut [u8], value: u64) -> usize
+    requires { ⌜ lenU64 value ≤ length (now out) ⌝ }
+    ensures { λ r. ⌜ r ≡ lenU64 value ⌝ }
+    ensures { λ _. ⌜ now (out .exit) ≡ put (now (out .entry)) (writeU64 value (length (now (out .entry)))) ⌝ }
+{
+    let mut v = value;
+    let mut i: usize = 0;
+    while 128 <= v {
+        out[i] = (128 + v % 128) as u8;
+        v = v / 128;
+        i += 1;
+    }
+    out[i] = v as u8;
+    i + 1
+}
+
+// Writes `value` in the fewest bytes. An output that is too short is refused and keeps every byte.
+pub fn write_u64(out: &mut [u8], value: u64) -> Wrote
+    ensures { λ r. ⌜ paperWrote r ≡ sizeOf (writeU64 value (length (now (out .entry)))) ⌝ }
+    ensures { λ _. ⌜ now (out .exit) ≡ put (now (out .entry)) (writeU64 value (length (now (out .entry)))) ⌝ }
+{
+    if out.len() < u64_len(value) {
+        return Wrote::Refused(16);
+    }
+    Wrote::Bytes(write_groups(out, value))
+}
+
+// Writes `value` by ZigZag and LEB128.
+pub fn write_i64(out: &mut [u8], value: i64) -> Wrote
+    ensures { λ r. ⌜ paperWrote r ≡ sizeOf (writeI64 value (length (now (out .entry)))) ⌝ }
+    ensures { λ _. ⌜ now (out .exit) ≡ put (now (out .entry)) (writeI64 value (length (now (out .entry)))) ⌝ }
+{
+    write_u64(out, zigzag_encode(value))
+}
+
+// The sum so far with the low seven bits of byte `i`: what passes 64 bits is dropped.
+fn grown(value: u64, byte: u8, i: usize) -> u64
+    requires { ⌜ i < 10 ⌝ }
+    ensures { λ r. ⌜ r ≡ (value + byte % 128 * 2 ^ (7 * i)) % 2 ^ 64 ⌝ }
+{
+    std::num::wrapping_add_u64(value, (wide(byte) % 128) << (7 * i))
+}
+
+// The number at the start of `s`.
+fn read_from(s: &[u8]) -> ReadU64
+    ensures { λ r. ⌜ paperU64 r ≡ readFrom (now (s .entry)) ⌝ }
+{
+    let mut value: u64 = 0;
+    let mut i: usize = 0;
+    while i < MAX_VARINT_BYTES {
+        if s.len() <= i {
+            return ReadU64::Refused(1);
+        }
+        let byte = s[i];
+        value = grown(value, byte, i);
+        if byte < 128 {
+            return ReadU64::Value(value, i + 1);
+        }
+        i += 1;
+    }
+    ReadU64::Refused(2)
+}
+
+// Reads a number from `buf` at `pos`, which may be any number.
+pub fn read_u64(buf: &[u8], pos: usize) -> ReadU64
+    ensures { λ r. ⌜ paperU64 r ≡ readU64 (now (buf .entry)) pos ⌝ }
+{
+    if buf.len() <= pos {
+        return ReadU64::Refused(1);
+    }
+    read_from(&buf[pos..])
+}
+
+// Reads a signed number: LEB128, then ZigZag.
+pub fn read_i64(buf: &[u8], pos: usize) -> ReadI64
+    ensures { λ r. ⌜ paperI64 r ≡ readI64 (now (buf .entry)) pos ⌝ }
+{
+    let u = read_u64(buf, pos);
+    match u {
+        ReadU64::Value(v, n) => ReadI64::Value(zigzag_decode(v), n),
+        ReadU64::Refused(k) => ReadI64::Refused(k),
+    }
+}
+
+// The number of bytes that `write_u64` writes for `value`.
+pub fn u64_len(value: u64) -> usize
+    ensures { λ r. ⌜ r ≡ lenU64 value ⌝ }
+{
+    let mut n: usize = 0;
+    while n < 9 {
+        if value < limit(n) {
+            return n + 1;
+        }
+        n += 1;
+    }
+    MAX_VARINT_BYTES
+}
+
+// The same for `write_i64`.
+pub fn i64_len(value: i64) -> usize
+    ensures { λ r. ⌜ r ≡ lenI64 value ⌝ }
+{
+    u64_len(zigzag_encode(value))
+}
+
+// 2v, or -2v - 1 below zero: the 64-bit pattern added to itself, which drops the top bit, complemented for negatives.
+pub fn zigzag_encode(v: i64) -> u64
+    ensures { λ r. ⌜ r ≡ zigzag v ⌝ }
+{
+    if v < 0 {
+        let pattern = !((!v) as u64);
+        !std::num::wrapping_add_u64(pattern, pattern)
+    } else {
+        let pattern = v as u64;
+        std::num::wrapping_add_u64(pattern, pattern)
+    }
+}
+
+pub fn zigzag_decode(v: u64) -> i64
+    ensures { λ r. ⌜ r ≡ unzigzag v ⌝ }
+{
+    if v % 2 == 0 {
+        (v / 2) as i64
+    } else {
+        !((v / 2) as i64)
+    }
+}
