@@ -39,10 +39,13 @@ not-below-zero (negsuc n) f t = absurd (never (rw (toZ-ofZ w64 (negsuc n) f) at 
     never : true ≡ false → ⊥
     never e = let z : _≡_ {A = ℕ} 0 1 = cc in omega arith
 
+-- ---- the pattern of a signed number
+
 -- the complement of a negative number's pattern is the number's distance below -1
 flipped : (n : ℕ) → n < 2 ^ 63 → toZ w64 (2 ^ 64 - 1 - ofZ w64 (negsuc n)) ≡ pos n
 flipped n l = let e : 2 ^ 64 - 1 - (2 ^ 64 - suc n) ≡ n = omega arith in rw e (toZ-pos w64 n l)
 
+-- ---- ZigZag: the pattern doubled modulo 2 ^ 64
 module _ (z : ℤ) (f : SFits w64 z) (t : ltZ (toZ w64 (ofZ w64 z)) (toZ w64 0) ≡ true) where
   pub minus-cast :
       T (nonNeg (toZ w64 (2 ^ 64 - 1 - ofZ w64 z))) × Fits w64 (natAbs (toZ w64 (2 ^ 64 - 1 - ofZ w64 z)))
@@ -51,14 +54,18 @@ module _ (z : ℤ) (f : SFits w64 z) (t : ltZ (toZ w64 (ofZ w64 z)) (toZ w64 0) 
       let l : n < 2 ^ 63 = rw e at (f .sfits) in
       rw (e, flipped n l) (tt, record { fits = omega arith })
 
-  pub minus-doubled : {r : ℕ} →
-      r ≡ (2 ^ 64 - 1 - natAbs (toZ w64 (2 ^ 64 - 1 - ofZ w64 z)) + (2 ^ 64 - 1 - natAbs (toZ w64 (2 ^ 64 - 1 - ofZ w64 z)))) % 2 ^ 64
-      → 2 ^ 64 - 1 - r ≡ zigzag z
-  unfolding zigzag
-  minus-doubled {r} s =
+  pub minus-pattern : 2 ^ 64 - 1 - natAbs (toZ w64 (2 ^ 64 - 1 - ofZ w64 z)) ≡ ofZ w64 z
+  minus-pattern =
       let (n, e) = below-zero z f t in
       let l : n < 2 ^ 63 = rw e at (f .sfits) in
-      let d : r ≡ (2 ^ 64 - 1 - n + (2 ^ 64 - 1 - n)) % 2 ^ 64 = rw (e, flipped n l) at s in
+      rw (e, flipped n l) (omega arith)
+
+  pub minus-doubled : {p r : ℕ} → p ≡ ofZ w64 (toZ w64 (ofZ w64 z)) → r ≡ (p + p) % 2 ^ 64 → 2 ^ 64 - 1 - r ≡ zigzag z
+  unfolding zigzag
+  minus-doubled {p} {r} q s =
+      let (n, e) = below-zero z f t in
+      let l : n < 2 ^ 63 = rw e at (f .sfits) in
+      let d : p ≡ 2 ^ 64 - suc n = rw (toZ-ofZ w64 z f, e) at q in
       rw e (omega arith)
 
 module _ (z : ℤ) (f : SFits w64 z) (t : ltZ (toZ w64 (ofZ w64 z)) (toZ w64 0) ≡ false) where
@@ -68,12 +75,17 @@ module _ (z : ℤ) (f : SFits w64 z) (t : ltZ (toZ w64 (ofZ w64 z)) (toZ w64 0) 
       let l : n < 2 ^ 63 = rw e at (f .sfits) in
       rw (toZ-ofZ w64 z f, e) (tt, record { fits = omega arith })
 
-  pub plus-doubled : {r : ℕ} → r ≡ (natAbs (toZ w64 (ofZ w64 z)) + natAbs (toZ w64 (ofZ w64 z))) % 2 ^ 64 → r ≡ zigzag z
+  pub plus-pattern : natAbs (toZ w64 (ofZ w64 z)) ≡ ofZ w64 z
+  plus-pattern =
+      let (n, e) = not-below-zero z f t in
+      rw (toZ-ofZ w64 z f, e)
+
+  pub plus-doubled : {p r : ℕ} → p ≡ ofZ w64 (toZ w64 (ofZ w64 z)) → r ≡ (p + p) % 2 ^ 64 → r ≡ zigzag z
   unfolding zigzag
-  plus-doubled {r} s =
+  plus-doubled {p} {r} q s =
       let (n, e) = not-below-zero z f t in
       let l : n < 2 ^ 63 = rw e at (f .sfits) in
-      let d : r ≡ (n + n) % 2 ^ 64 = rw (toZ-ofZ w64 z f, e) at s in
+      let d : p ≡ n = rw (toZ-ofZ w64 z f, e) at q in
       rw e (omega arith)
 
 -- ---- ZigZag back

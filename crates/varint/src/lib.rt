@@ -5,6 +5,8 @@
 ghost use mathlib.Core.Path.{_≡_};
 ghost use Prim.Native.Nat.{_+_, _*_, _%_, _^_, _<_, _≤_};
 ghost use lib.ListN.{length};
+ghost use mir.Syntax.{w64};
+ghost use mir.Val.{ofZ};
 ghost use Rattle.paper.specs.Answer.{put, sizeOf};
 ghost use Rattle.varint.specs.Leb.{readFrom, readU64, writeU64, lenU64, lebBytes};
 ghost use Rattle.varint.specs.Zigzag.{zigzag, unzigzag};
@@ -164,17 +166,24 @@ pub fn i64_len(value: i64) -> usize
     u64_len(zigzag_encode(value))
 }
 
-// 2v, or -2v - 1 below zero: the 64-bit pattern added to itself, which drops the top bit, complemented for negatives.
+// The 64-bit pattern of a signed number.
+pub fn pattern(v: i64) -> u64
+    ensures { λ r. ⌜ r ≡ ofZ w64 v ⌝ }
+{
+    if v < 0 {
+        !((!v) as u64)
+    } else {
+        v as u64
+    }
+}
+
+// 2v, or -2v - 1 below zero: the pattern added to itself, which drops the top bit, complemented for negatives.
 pub fn zigzag_encode(v: i64) -> u64
     ensures { λ r. ⌜ r ≡ zigzag v ⌝ }
 {
-    if v < 0 {
-        let pattern = !((!v) as u64);
-        !std::num::wrapping_add_u64(pattern, pattern)
-    } else {
-        let pattern = v as u64;
-        std::num::wrapping_add_u64(pattern, pattern)
-    }
+    let bits = pattern(v);
+    let doubled = std::num::wrapping_add_u64(bits, bits);
+    if v < 0 { !doubled } else { doubled }
 }
 
 pub fn zigzag_decode(v: u64) -> i64

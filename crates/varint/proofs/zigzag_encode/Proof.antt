@@ -1,5 +1,6 @@
--- `varint::zigzag_encode` meets its contract. Assumes nothing.
-use Rattle.varint.proofs.Signed.{signed, minus-cast, plus-cast, minus-doubled, plus-doubled}
+-- `varint::zigzag_encode` meets its contract, below zero and from zero on. Assumes nothing.
+use borrow.Author.Needs.{needs}
+use Rattle.varint.proofs.Signed.{minus-doubled, plus-doubled}
 use Rattle.varint.proofs.zigzag_encode.Statement.{statement}
 use Rattle.varint.proofs.zigzag_encode.Tie as tie
 
@@ -7,9 +8,7 @@ pub zigzag-encode-spec : {M : Type 1} → statement M
 zigzag-encode-spec =
     tie.close
     (tie.spec
-    (λ c. minus-cast (c .before .args .v) (c .before .fits .v) (c .if1 .taken))
-    (λ c κs. search signed)
-    (λ c. plus-cast (c .before .args .v) (c .before .fits .v) (c .if1 .left))
-    (λ c κs. search signed)
-    (λ c. minus-doubled (c .before .before .args .v) (c .before .before .fits .v) (c .before .if1 .taken) (c .wrapping-add-u64 .ensures))
-    (λ c. plus-doubled (c .before .before .args .v) (c .before .before .fits .v) (c .before .if1 .left) (c .wrapping-add-u642 .ensures)))
+    (λ c κs. search needs)
+    (λ c κs. search needs)
+    (λ c. minus-doubled _ (c .before .before .before .fits .v) (c .if1 .taken) (c .before .before .pattern .ensures) (c .before .wrapping-add-u64 .ensures))
+    (λ c. plus-doubled _ (c .before .before .before .fits .v) (c .if1 .left) (c .before .before .pattern .ensures) (c .before .wrapping-add-u64 .ensures)))
