@@ -170,11 +170,7 @@ pub fn i64_len(value: i64) -> usize
 pub fn pattern(v: i64) -> u64
     ensures { λ r. ⌜ r ≡ ofZ w64 v ⌝ }
 {
-    if v < 0 {
-        !((!v) as u64)
-    } else {
-        v as u64
-    }
+    if v < 0 { !((!v) as u64) } else { v as u64 }
 }
 
 // 2v, or -2v - 1 below zero: the pattern added to itself, which drops the top bit, complemented for negatives.

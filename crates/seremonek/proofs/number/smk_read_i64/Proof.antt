@@ -1,0 +1,11 @@
+-- `seremonek::number::smk_read_i64` meets its contract. Assumes nothing.
+use Rattle.seremonek.proofs.Numbers.{numbers}
+use Rattle.seremonek.proofs.number.smk_read_i64.Statement.{statement}
+use Rattle.seremonek.proofs.number.smk_read_i64.Tie as tie
+
+pub smk-read-i64-spec : {M : Type 1} → statement M
+smk-read-i64-spec =
+    tie.close
+    (tie.spec
+    (λ c κs. search numbers) (λ c. search numbers) (λ c κs. search numbers) (λ c. search numbers) (λ c. search numbers)
+    (λ c. search numbers) (λ c. search numbers))
