@@ -10,10 +10,10 @@ use native.Mathlib.Omega.{arith}
 use lib.ListN.{length, take, drop, getD, length-drop, drop-of-length-le}
 use lib.Seq.{drop-cons, take-all}
 use borrow.Author.Needs.{needs}
-use borrow.Author.Tests.{lt-ltb, le-ltb}
+use borrow.Author.Tests.{lt-ltb, le-ltb, ne-eqb}
 use Rattle.paper.specs.Answer.{Answer, gives, refuses, andThen, pick}
 use Rattle.varint.specs.Leb.{taken, sumFrom, readFrom, readU64}
-use Rattle.varint.specs.Paper.{paperU64}
+use Rattle.varint.specs.Paper.{paperU64, scanned, Found}
 use Rattle.varint.specs.declared.ReadU64.{ReadU64}
 use Rattle.varint.specs.declared.ReadU64.the-variants as U
 
@@ -52,26 +52,29 @@ unfolding resume sumFrom
 resume-none m i = rw (add-zero (m % 2 ^ 64), mod-mod m (2 ^ 64), add-zero i)
 
 module _ (s : List ℕ) {v i : ℕ} (g : Going s v i) where
-  pub going-end : 10 ≤ i → paperU64 (U.Refused 2) ≡ readFrom s
-  unfolding paperU64 resume taken
-  going-end l = let e : 10 - i ≡ 0 = omega arith in rw e at (g .same)
+  pub going-end : 10 ≤ i → Found s 0 11
+  unfolding scanned pick resume taken
+  going-end l = let e : 10 - i ≡ 0 = omega arith in record { same = rw e at (g .same) }
 
   module _ (t : i < 10) where
-    pub going-short : length s ≤ i → paperU64 (U.Refused 1) ≡ readFrom s
-    unfolding paperU64 resume taken
+    pub going-short : length s ≤ i → Found s 0 0
+    unfolding scanned pick resume taken
     going-short l =
         let e : 10 - i ≡ suc (9 - i) = omega arith in
-        rw (e, drop-of-length-le s l) at (g .same)
+        record { same = rw (e, drop-of-length-le s l) at (g .same) }
 
     module _ (h : i < length s) {r : ℕ} (sum : r ≡ (v + getD s i 0 % 128 * 2 ^ (7 * i)) % 2 ^ 64) where
-      pub going-last : getD s i 0 < 128 → paperU64 (U.Value r (i + 1)) ≡ readFrom s
-      unfolding paperU64 taken pick andThen
+      pub going-last : getD s i 0 < 128 → Found s r (i + 1)
+      unfolding scanned taken pick andThen
       going-last l =
           let e : 10 - i ≡ suc (9 - i) = omega arith in
           let f : resume v i (andThen (gives []) (λ bs. gives (getD s i 0 ∷ bs))) ≡ readFrom s
-          = rw (e, drop-cons s i 0, lt-ltb (getD s i 0) 128 l) at (g .same) in
-          rw sum
-          (sym (resume-none (v + getD s i 0 % 128 * 2 ^ (7 * i)) (i + 1)) ∙ sym (resume-cons v i (getD s i 0) (gives [])) ∙ f)
+              = rw (e, drop-cons s i 0, lt-ltb (getD s i 0) 128 l) at (g .same) in
+          record {
+            same =
+              rw (ne-eqb (i + 1) 0 (omega arith), le-ltb 10 (i + 1) (omega arith), sum)
+              (sym (resume-none (v + getD s i 0 % 128 * 2 ^ (7 * i)) (i + 1)) ∙ sym (resume-cons v i (getD s i 0) (gives [])) ∙ f)
+          }
 
       pub going-more : 128 ≤ getD s i 0 → Going s r (i + 1)
       unfolding taken pick
@@ -85,15 +88,38 @@ pub grown-wraps : (v b i : ℕ) {w r : ℕ} → w ≡ b → r ≡ (v + (w % 128 
 grown-wraps v b i e p = rw (add-mod-mod, e) at p
 
 -- ---- at a position
-pub read-past : (s : List ℕ) (pos : ℕ) → length s ≤ pos → paperU64 (U.Refused 1) ≡ readU64 s pos
-unfolding paperU64 readU64 readFrom taken andThen
-read-past s pos l = rw (drop-of-length-le s l)
+module _ (s : List ℕ) (pos : ℕ) where
+  pub read-past : length s ≤ pos → paperU64 (U.Refused 1) ≡ readU64 s pos
+  unfolding paperU64 readU64 readFrom taken andThen
+  read-past l = rw (drop-of-length-le s l)
 
-take-rest : (s : List ℕ) (pos : ℕ) → take (length s - pos) (drop pos s) ≡ drop pos s
-take-rest s pos = take-all (length s - pos) (drop pos s) (le-of-eq (length-drop pos s))
+  pub read-byte : {v : ℕ} → pos < length s → getD s pos 0 < 128 → v ≡ getD s pos 0 → paperU64 (U.Value v 1) ≡ readU64 s pos
+  unfolding paperU64 readU64 readFrom taken andThen pick sumFrom
+  read-byte {v} h l e =
+      let m : getD s pos 0 ≡ (getD s pos 0 % 128 * 2 ^ (7 * 0) + 0) % 2 ^ 64 = omega arith in
+      rw (drop-cons s pos 0, lt-ltb (getD s pos 0) 128 l, e) (ap (λ (x : ℕ). gives (x, 1)) m)
 
-pub read-at : (s : List ℕ) (pos : ℕ) {a : Answer (ℕ × ℕ)} → a ≡ readFrom (take (length s - pos) (drop pos s)) → a ≡ readU64 s pos
-unfolding readU64
-read-at s pos p = rw (take-rest s pos) at p
+  take-rest : take (length s - pos) (drop pos s) ≡ drop pos s
+  take-rest = take-all (length s - pos) (drop pos s) (le-of-eq (length-drop pos s))
 
-pub ruleset reading = (needs, going-start, going-end, going-short, going-last, going-more, grown-wraps, read-past, read-at)
+  module _ {v n : ℕ} (e : Found (take (length s - pos) (drop pos s)) v n) where
+    scanned-at : scanned v n ≡ readU64 s pos
+    unfolding readU64
+    scanned-at = rw take-rest at (e .same)
+
+    pub scanned-short : n ≡ 0 → paperU64 (U.Refused 1) ≡ readU64 s pos
+    unfolding paperU64 scanned pick
+    scanned-short z = rw z at scanned-at
+
+    pub scanned-long : 10 < n → paperU64 (U.Refused 2) ≡ readU64 s pos
+    unfolding paperU64 scanned pick
+    scanned-long l = rw (ne-eqb n 0 (omega arith), lt-ltb 10 n l) at scanned-at
+
+    pub scanned-value : (n ≡ 0 → ⊥) → n ≤ 10 → paperU64 (U.Value v n) ≡ readU64 s pos
+    unfolding paperU64 scanned pick
+    scanned-value z l = rw (ne-eqb n 0 z, le-ltb 10 n l) at scanned-at
+
+pub ruleset reading = (
+  needs, going-start, going-end, going-short, going-last, going-more, grown-wraps, read-past, read-byte, scanned-short, scanned-long,
+  scanned-value
+)

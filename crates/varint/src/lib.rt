@@ -8,10 +8,10 @@ ghost use lib.ListN.{length};
 ghost use mir.Syntax.{w64};
 ghost use mir.Val.{ofZ};
 ghost use Rattle.paper.specs.Answer.{put, sizeOf};
-ghost use Rattle.varint.specs.Leb.{readFrom, readU64, writeU64, lenU64, lebBytes};
+ghost use Rattle.varint.specs.Leb.{readU64, writeU64, lenU64};
 ghost use Rattle.varint.specs.Zigzag.{zigzag, unzigzag};
 ghost use Rattle.varint.specs.Number.{readI64, writeI64, lenI64};
-ghost use Rattle.varint.specs.Paper.{paperU64, paperI64, paperWrote};
+ghost use Rattle.varint.specs.Paper.{Found, paperU64, paperI64, paperWrote};
 
 // Upper bound on the bytes of a 64-bit number: seven bits a byte.
 pub const MAX_VARINT_BYTES: usize = 10;
@@ -104,34 +104,58 @@ fn grown(value: u64, byte: u8, i: usize) -> u64
     std::num::wrapping_add_u64(value, (wide(byte) % 128) << (7 * i))
 }
 
+// The value and the bytes taken: none where the buffer ends sooner, eleven where one byte more is wanted.
+// Two words, which come back in registers; an enum comes back through memory.
+struct Scanned {
+    value: u64,
+    taken: usize,
+}
+
 // The number at the start of `s`.
-fn read_from(s: &[u8]) -> ReadU64
-    ensures { λ r. ⌜ paperU64 r ≡ readFrom (now (s .entry)) ⌝ }
+fn scan(s: &[u8]) -> Scanned
+    ensures { λ r. ⌜ Found (now (s .entry)) (r .value) (r .taken) ⌝ }
 {
     let mut value: u64 = 0;
     let mut i: usize = 0;
     while i < MAX_VARINT_BYTES {
         if s.len() <= i {
-            return ReadU64::Refused(1);
+            return Scanned { value: 0, taken: 0 };
         }
         let byte = s[i];
         value = grown(value, byte, i);
         if byte < 128 {
-            return ReadU64::Value(value, i + 1);
+            return Scanned {
+                value,
+                taken: i + 1,
+            };
         }
         i += 1;
     }
-    ReadU64::Refused(2)
+    Scanned {
+        value: 0,
+        taken: 11,
+    }
 }
 
-// Reads a number from `buf` at `pos`, which may be any number.
+// Reads a number from `buf` at `pos`, which may be any number. One byte is the common case, and needs no scan.
 pub fn read_u64(buf: &[u8], pos: usize) -> ReadU64
     ensures { λ r. ⌜ paperU64 r ≡ readU64 (now (buf .entry)) pos ⌝ }
 {
     if buf.len() <= pos {
         return ReadU64::Refused(1);
     }
-    read_from(&buf[pos..])
+    let byte = buf[pos];
+    if byte < 128 {
+        return ReadU64::Value(wide(byte), 1);
+    }
+    let found = scan(&buf[pos..]);
+    if found.taken == 0 {
+        return ReadU64::Refused(1);
+    }
+    if 10 < found.taken {
+        return ReadU64::Refused(2);
+    }
+    ReadU64::Value(found.value, found.taken)
 }
 
 // Reads a signed number: LEB128, then ZigZag.

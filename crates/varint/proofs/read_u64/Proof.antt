@@ -7,5 +7,6 @@ pub read-u64-spec : {M : Type 1} → statement M
 read-u64-spec =
     tie.close
     (tie.spec
-    (λ c. search reading) (λ c. search reading) (λ c. search reading) (λ c. search reading) (λ c κs. search reading)
+    (λ c. search reading) (λ c. search reading) (λ c κs. search reading) (λ c. search reading) (λ c. search reading)
+    (λ c. search reading) (λ c. search reading) (λ c κs. search reading) (λ c. search reading) (λ c. search reading)
     (λ c. search reading))

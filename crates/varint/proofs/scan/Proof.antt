@@ -1,11 +1,11 @@
--- `varint::read_from` meets its contract: at each turn, what is left, resumed from here, is the answer. Assumes nothing.
+-- `varint::scan` meets its contract: at each turn, what is left, resumed from here, is the answer. Assumes nothing.
 use Prim.Native.Nat.{_-_}
 use Rattle.varint.proofs.Reading.{Going, reading}
-use Rattle.varint.proofs.read_from.Statement.{statement}
-use Rattle.varint.proofs.read_from.Tie as tie
+use Rattle.varint.proofs.scan.Statement.{statement}
+use Rattle.varint.proofs.scan.Tie as tie
 
-pub read-from-spec : {M : Type 1} → statement M
-read-from-spec =
+pub scan-spec : {M : Type 1} → statement M
+scan-spec =
     tie.close
     (tie.spec
     (λ s value₀ i₀ value i. Going s value i)
