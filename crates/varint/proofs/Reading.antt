@@ -69,11 +69,11 @@ module _ (s : List ℕ) {v i : ℕ} (g : Going s v i) where
       going-last l =
           let e : 10 - i ≡ suc (9 - i) = omega arith in
           let f : resume v i (andThen (gives []) (λ bs. gives (getD s i 0 ∷ bs))) ≡ readFrom s
-              = rw (e, drop-cons s i 0, lt-ltb (getD s i 0) 128 l) at (g .same) in
+          = rw (e, drop-cons s i 0, lt-ltb (getD s i 0) 128 l) at (g .same) in
           record {
             same =
-              rw (ne-eqb (i + 1) 0 (omega arith), le-ltb 10 (i + 1) (omega arith), sum)
-              (sym (resume-none (v + getD s i 0 % 128 * 2 ^ (7 * i)) (i + 1)) ∙ sym (resume-cons v i (getD s i 0) (gives [])) ∙ f)
+                rw (ne-eqb (i + 1) 0 (omega arith), le-ltb 10 (i + 1) (omega arith), sum)
+                (sym (resume-none (v + getD s i 0 % 128 * 2 ^ (7 * i)) (i + 1)) ∙ sym (resume-cons v i (getD s i 0) (gives [])) ∙ f);
           }
 
       pub going-more : 128 ≤ getD s i 0 → Going s r (i + 1)
@@ -120,6 +120,16 @@ module _ (s : List ℕ) (pos : ℕ) where
     scanned-value z l = rw (ne-eqb n 0 z, le-ltb 10 n l) at scanned-at
 
 pub ruleset reading = (
-  needs, going-start, going-end, going-short, going-last, going-more, grown-wraps, read-past, read-byte, scanned-short, scanned-long,
-  scanned-value
+  needs,
+  going-start,
+  going-end,
+  going-short,
+  going-last,
+  going-more,
+  grown-wraps,
+  read-past,
+  read-byte,
+  scanned-short,
+  scanned-long,
+  scanned-value,
 )

@@ -6,7 +6,7 @@ use mathlib.Core.List.{List}
 use Prim.Native.Nat.{ℕ, suc, zero-le, _+_, _-_, _*_, _/_, _%_, _^_, _≤_, _<_}
 use native.Mathlib.Omega.{arith}
 use lib.Dec.{T, ltb, eqb}
-use lib.ListN.{length}
+use lib.ListN.{length, take, drop, getD}
 use lib.IntN.{ℤ, pos, negsuc, natAbs}
 use lib.Signed.{ltZ, nonNeg}
 use mir.Syntax.{w64}
@@ -18,11 +18,10 @@ use Rattle.paper.specs.Answer.{Answer, gives, refuses, andThen, pick, put, size
 use Rattle.varint.specs.Leb.{readU64, lenU64, writeU64}
 use Rattle.varint.specs.Zigzag.{zigzag, unzigzag}
 use Rattle.varint.specs.Number.{readI64, lenI64, writeI64}
-use Rattle.varint.specs.Paper.{paperU64, paperI64}
-use Rattle.varint.specs.declared.ReadU64.{ReadU64}
+use Rattle.varint.specs.Paper.{paperU64, paperI64, Found}
 use Rattle.varint.specs.declared.ReadU64.the-variants as U
-use Rattle.varint.specs.declared.ReadI64.{ReadI64}
 use Rattle.varint.specs.declared.ReadI64.the-variants as I
+use Rattle.varint.proofs.Reading.{read-past, read-byte, scanned-short, scanned-long, scanned-value}
 
 -- what the code's test says: the number is -(n + 1), or n
 below-zero : (z : ℤ) → SFits w64 z → ltZ (toZ w64 (ofZ w64 z)) (toZ w64 0) ≡ true → (n : ℕ) × (z ≡ negsuc n)
@@ -100,14 +99,30 @@ half-odd u l e =
     rw (ne-eqb (u % 2) 0 e, d) (toZ-neg w64 (u / 2) (omega arith))
 
 -- ---- the calls: the unsigned call, and ZigZag before or after it
-module _ (s : List ℕ) (at : ℕ) {r : ReadU64} (p : paperU64 r ≡ readU64 s at) where
-  pub signed-value : {v n : ℕ} {z : ℤ} → r ≡ U.Value v n → z ≡ unzigzag v → paperI64 (I.Value z n) ≡ readI64 s at
+module _ (s : List ℕ) (at : ℕ) where
+  signed-of : (v n : ℕ) → paperU64 (U.Value v n) ≡ readU64 s at → {z : ℤ} → z ≡ unzigzag v → paperI64 (I.Value z n) ≡ readI64 s at
   unfolding paperU64 paperI64 readI64 andThen
-  signed-value e d = rw (d, ← p, e)
+  signed-of v n p d = rw (d, ← p)
 
-  pub signed-refused : {k : ℕ} → r ≡ U.Refused k → paperI64 (I.Refused k) ≡ readI64 s at
+  refused-of : (k : ℕ) → paperU64 (U.Refused k) ≡ readU64 s at → paperI64 (I.Refused k) ≡ readI64 s at
   unfolding paperU64 paperI64 readI64 andThen
-  signed-refused e = rw (← p, e)
+  refused-of k p = rw (← p)
+
+  pub signed-past : length s ≤ at → paperI64 (I.Refused 1) ≡ readI64 s at
+  signed-past l = refused-of 1 (read-past s at l)
+
+  pub signed-byte : {v : ℕ} {z : ℤ} → at < length s → getD s at 0 < 128 → v ≡ getD s at 0 → z ≡ unzigzag v → paperI64 (I.Value z 1) ≡ readI64 s at
+  signed-byte {v} h l e d = signed-of v 1 (read-byte s at h l e) d
+
+  module _ {v n : ℕ} (e : Found (take (length s - at) (drop at s)) v n) where
+    pub signed-short : n ≡ 0 → paperI64 (I.Refused 1) ≡ readI64 s at
+    signed-short z = refused-of 1 (scanned-short s at e z)
+
+    pub signed-long : 10 < n → paperI64 (I.Refused 2) ≡ readI64 s at
+    signed-long l = refused-of 2 (scanned-long s at e l)
+
+    pub signed-value : (n ≡ 0 → ⊥) → n ≤ 10 → {z : ℤ} → z ≡ unzigzag v → paperI64 (I.Value z n) ≡ readI64 s at
+    signed-value z l d = signed-of v n (scanned-value s at e z l) d
 
 module _ {u : ℕ} (z : ℤ) (f : SFits w64 z) (e : u ≡ zigzag (toZ w64 (ofZ w64 z))) where
   pub signed-len : {r : ℕ} → r ≡ lenU64 u → r ≡ lenI64 z
@@ -124,14 +139,13 @@ module _ {u : ℕ} (z : ℤ) (f : SFits w64 z) (e : u ≡ zigzag (toZ w64 (ofZ w
 
 pub ruleset signed = (
   needs,
-  minus-cast,
-  minus-doubled,
-  plus-cast,
-  plus-doubled,
   half-even,
   half-odd,
+  signed-past,
+  signed-byte,
+  signed-short,
+  signed-long,
   signed-value,
-  signed-refused,
   signed-len,
   signed-wrote,
   signed-written,

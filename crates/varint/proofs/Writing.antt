@@ -102,6 +102,32 @@ module _ (value room : ℕ) {l : ℕ} (e : l ≡ lenU64 value) where
   unfolding paperWrote sizeOf writeU64 pick lenU64
   accepted-size d h = rw (d, le-ltb room (lenU64 value) (has-room h))
 
+-- ---- one byte
+module _ (value : ℕ) (h : value < 128) where
+  one-byte : lebBytes value ≡ value ∷ []
+  unfolding lebBytes
+  one-byte = groups-last 9 value h
+
+  pub byte-refused-size : (out : List ℕ) → length out ≡ 0 → paperWrote (W.Refused 16) ≡ sizeOf (writeU64 value (length out))
+  unfolding lenU64
+  byte-refused-size out z = refused-size value (length out) refl (rw one-byte (omega arith))
+
+  pub byte-refused-output : (out : List ℕ) → length out ≡ 0 → out ≡ put out (writeU64 value (length out))
+  unfolding lenU64
+  byte-refused-output out z = refused-output value (length out) refl (rw one-byte (omega arith)) out
+
+  module _ (out : List ℕ) (z : length out ≡ 0 → ⊥) where
+    byte-room : lenU64 value ≤ length out
+    unfolding lenU64
+    byte-room = rw one-byte (omega arith)
+
+    pub byte-size : paperWrote (W.Bytes 1) ≡ sizeOf (writeU64 value (length out))
+    unfolding lenU64
+    byte-size = accepted-size value (length out) refl (sym (ap length one-byte)) byte-room
+
+    pub byte-output : set out 0 value ≡ put out (writeU64 value (length out))
+    byte-output = filling-done (filling-start (omega arith) byte-room) h
+
 pub ruleset writing = (
   needs,
   filling-start,
@@ -113,4 +139,8 @@ pub ruleset writing = (
   refused-output,
   has-room,
   accepted-size,
+  byte-refused-size,
+  byte-refused-output,
+  byte-size,
+  byte-output,
 )

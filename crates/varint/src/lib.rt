@@ -77,11 +77,18 @@ fn write_groups(out: &mut [u8], value: u64) -> usize
     i + 1
 }
 
-// Writes `value` in the fewest bytes. An output that is too short is refused and keeps every byte.
+// Writes `value` in the fewest bytes; one byte is the common case. An output that is too short is refused and keeps every byte.
 pub fn write_u64(out: &mut [u8], value: u64) -> Wrote
     ensures { λ r. ⌜ paperWrote r ≡ sizeOf (writeU64 value (length (now (out .entry)))) ⌝ }
     ensures { λ _. ⌜ now (out .exit) ≡ put (now (out .entry)) (writeU64 value (length (now (out .entry)))) ⌝ }
 {
+    if value < 128 {
+        if out.len() == 0 {
+            return Wrote::Refused(16);
+        }
+        out[0] = value as u8;
+        return Wrote::Bytes(1);
+    }
     if out.len() < u64_len(value) {
         return Wrote::Refused(16);
     }
@@ -162,11 +169,21 @@ pub fn read_u64(buf: &[u8], pos: usize) -> ReadU64
 pub fn read_i64(buf: &[u8], pos: usize) -> ReadI64
     ensures { λ r. ⌜ paperI64 r ≡ readI64 (now (buf .entry)) pos ⌝ }
 {
-    let u = read_u64(buf, pos);
-    match u {
-        ReadU64::Value(v, n) => ReadI64::Value(zigzag_decode(v), n),
-        ReadU64::Refused(k) => ReadI64::Refused(k),
+    if buf.len() <= pos {
+        return ReadI64::Refused(1);
     }
+    let byte = buf[pos];
+    if byte < 128 {
+        return ReadI64::Value(zigzag_decode(wide(byte)), 1);
+    }
+    let found = scan(&buf[pos..]);
+    if found.taken == 0 {
+        return ReadI64::Refused(1);
+    }
+    if 10 < found.taken {
+        return ReadI64::Refused(2);
+    }
+    ReadI64::Value(zigzag_decode(found.value), found.taken)
 }
 
 // The number of bytes that `write_u64` writes for `value`.

@@ -7,5 +7,6 @@ pub read-i64-spec : {M : Type 1} → statement M
 read-i64-spec =
     tie.close
     (tie.spec
-    (λ c κs. search signed) (λ c. search signed) (λ c κs. search signed) (λ c. search signed) (λ c. search signed)
-    (λ c. search signed))
+    (λ c. search signed) (λ c. search signed) (λ c κs. search signed) (λ c κs. search signed) (λ c. search signed)
+    (λ c. search signed) (λ c. search signed) (λ c. search signed) (λ c κs. search signed) (λ c. search signed)
+    (λ c. search signed) (λ c κs. search signed) (λ c. search signed))

@@ -7,4 +7,5 @@ pub write-u64-spec : {M : Type 1} → statement M
 write-u64-spec =
     tie.close
     (tie.spec
+    (λ c. search writing) (λ c. search writing) (λ c. search writing) (λ c. search writing) (λ c. search writing)
     (λ c κs. search writing) (λ c. search writing) (λ c κs. search writing) (λ c. search writing) (λ c. search writing))
