@@ -8,22 +8,15 @@ use native.Mathlib.Nat.{le-of-eq, mod-add-mod, add-mod-mod, mod-mod, add-assoc, 
 use native.Mathlib.Numerals.{add-one}
 use native.Mathlib.Omega.{arith}
 use lib.ListN.{length, take, drop, getD, length-drop, drop-of-length-le}
-use lib.Seq.{drop-cons, take-all}
+use lib.Seq.{drop-cons, take-all, getD-drop}
 use borrow.Author.Needs.{needs}
 use borrow.Author.Tests.{lt-ltb, le-ltb, ne-eqb}
 use Rattle.paper.specs.Answer.{Answer, gives, refuses, andThen, pick}
 use Rattle.varint.specs.Leb.{taken, sumFrom, readFrom, readU64}
-use Rattle.varint.specs.Paper.{paperU64, scanned, Found}
+use Rattle.varint.specs.Paper.{paperU64}
+use Rattle.varint.specs.Scan.{Going, Found, scanned, resume}
 use Rattle.varint.specs.declared.ReadU64.{ReadU64}
 use Rattle.varint.specs.declared.ReadU64.the-variants as U
-
--- the answer from byte i on, with the bytes before it added up to v
-unfoldable pub resume : ℕ → ℕ → Answer (List ℕ) → Answer (ℕ × ℕ)
-resume v i (gives bs) = gives ((v + sumFrom i bs) % 2 ^ 64, i + length bs)
-resume v i (refuses k) = refuses k
-
-pub record Going (s : List ℕ) (v i : ℕ) : Type 0 where
-  pub same : resume v i (taken (10 - i) (drop i s)) ≡ readFrom s
 
 resume-start : (a : Answer (List ℕ)) → resume 0 0 a ≡ andThen a (λ bs. gives (sumFrom 0 bs % 2 ^ 64, length bs))
 unfolding resume andThen
@@ -93,14 +86,23 @@ module _ (s : List ℕ) (pos : ℕ) where
   unfolding paperU64 readU64 readFrom taken andThen
   read-past l = rw (drop-of-length-le s l)
 
-  pub read-byte : {v : ℕ} → pos < length s → getD s pos 0 < 128 → v ≡ getD s pos 0 → paperU64 (U.Value v 1) ≡ readU64 s pos
-  unfolding paperU64 readU64 readFrom taken andThen pick sumFrom
-  read-byte {v} h l e =
-      let m : getD s pos 0 ≡ (getD s pos 0 % 128 * 2 ^ (7 * 0) + 0) % 2 ^ 64 = omega arith in
-      rw (drop-cons s pos 0, lt-ltb (getD s pos 0) 128 l, e) (ap (λ (x : ℕ). gives (x, 1)) m)
-
   take-rest : take (length s - pos) (drop pos s) ≡ drop pos s
   take-rest = take-all (length s - pos) (drop pos s) (le-of-eq (length-drop pos s))
+
+  module _ (h : pos < length s) {v : ℕ} (e : v ≡ getD s pos 0) where
+    pub read-byte : getD s pos 0 < 128 → paperU64 (U.Value v 1) ≡ readU64 s pos
+    unfolding paperU64 readU64 readFrom taken andThen pick sumFrom
+    read-byte l =
+        let m : v ≡ (v % 128 * 2 ^ (7 * 0) + 0) % 2 ^ 64 = omega arith in
+        rw (drop-cons s pos 0, ← e, lt-ltb v 128 (rw (← e) at l)) (ap (λ (x : ℕ). gives (x, 1)) m)
+
+    -- one byte is read, and the number goes on
+    pub going-second : 128 ≤ getD s pos 0 → Going (take (length s - pos) (drop pos s)) (v % 128) 1
+    going-second l =
+        let n : 0 < length (drop pos s) = rw (length-drop pos s) (omega arith) in
+        let d : getD (drop pos s) 0 0 ≡ v = rw (getD-drop pos s 0 0, add-zero pos, e) in
+        let m : v % 128 ≡ (0 + getD (drop pos s) 0 0 % 128 * 2 ^ (7 * 0)) % 2 ^ 64 = rw d (omega arith) in
+        rw take-rest (going-more (drop pos s) (going-start (drop pos s)) (omega arith) n m (rw (d, e) l))
 
   module _ {v n : ℕ} (e : Found (take (length s - pos) (drop pos s)) v n) where
     scanned-at : scanned v n ≡ readU64 s pos
@@ -128,7 +130,6 @@ pub ruleset reading = (
   going-more,
   grown-wraps,
   read-past,
-  read-byte,
   scanned-short,
   scanned-long,
   scanned-value,

@@ -18,10 +18,11 @@ use Rattle.paper.specs.Answer.{Answer, gives, refuses, andThen, pick, put, size
 use Rattle.varint.specs.Leb.{readU64, lenU64, writeU64}
 use Rattle.varint.specs.Zigzag.{zigzag, unzigzag}
 use Rattle.varint.specs.Number.{readI64, lenI64, writeI64}
-use Rattle.varint.specs.Paper.{paperU64, paperI64, Found}
+use Rattle.varint.specs.Paper.{paperU64, paperI64}
+use Rattle.varint.specs.Scan.{Found}
 use Rattle.varint.specs.declared.ReadU64.the-variants as U
 use Rattle.varint.specs.declared.ReadI64.the-variants as I
-use Rattle.varint.proofs.Reading.{read-past, read-byte, scanned-short, scanned-long, scanned-value}
+use Rattle.varint.proofs.Reading.{read-past, read-byte, going-second, scanned-short, scanned-long, scanned-value}
 
 -- what the code's test says: the number is -(n + 1), or n
 below-zero : (z : ℤ) → SFits w64 z → ltZ (toZ w64 (ofZ w64 z)) (toZ w64 0) ≡ true → (n : ℕ) × (z ≡ negsuc n)
@@ -111,8 +112,8 @@ module _ (s : List ℕ) (at : ℕ) where
   pub signed-past : length s ≤ at → paperI64 (I.Refused 1) ≡ readI64 s at
   signed-past l = refused-of 1 (read-past s at l)
 
-  pub signed-byte : {v : ℕ} {z : ℤ} → at < length s → getD s at 0 < 128 → v ≡ getD s at 0 → z ≡ unzigzag v → paperI64 (I.Value z 1) ≡ readI64 s at
-  signed-byte {v} h l e d = signed-of v 1 (read-byte s at h l e) d
+  pub signed-byte : {v : ℕ} {z : ℤ} → at < length s → v ≡ getD s at 0 → getD s at 0 < 128 → z ≡ unzigzag v → paperI64 (I.Value z 1) ≡ readI64 s at
+  signed-byte {v} h e l d = signed-of v 1 (read-byte s at h e l) d
 
   module _ {v n : ℕ} (e : Found (take (length s - at) (drop at s)) v n) where
     pub signed-short : n ≡ 0 → paperI64 (I.Refused 1) ≡ readI64 s at
@@ -141,6 +142,7 @@ pub ruleset signed = (
   needs,
   half-even,
   half-odd,
+  going-second,
   signed-past,
   signed-byte,
   signed-short,

@@ -2,3 +2,4 @@ pub mod Leb
 pub mod Zigzag
 pub mod Number
 pub mod Paper
+pub mod Scan

@@ -1,24 +1,13 @@
 -- What each answer of the code stands for: document 01's number, or its values.
 use Prim.Native.Nat.{ℕ}
-use lib.Dec.{ltb, eqb}
 use lib.IntN.{ℤ}
-use mathlib.Core.List.{List}
-use mathlib.Core.Path.{_≡_}
-use Rattle.paper.specs.Answer.{Answer, gives, refuses, pick}
-use Rattle.varint.specs.Leb.{readFrom}
+use Rattle.paper.specs.Answer.{Answer, gives, refuses}
 use Rattle.varint.specs.declared.ReadU64.{ReadU64}
 use Rattle.varint.specs.declared.ReadU64.the-variants as U
 use Rattle.varint.specs.declared.ReadI64.{ReadI64}
 use Rattle.varint.specs.declared.ReadI64.the-variants as I
 use Rattle.varint.specs.declared.Wrote.{Wrote}
 use Rattle.varint.specs.declared.Wrote.the-variants as W
-
--- a scan answers in two words: the bytes taken tell a refusal
-unfoldable pub scanned : ℕ → ℕ → Answer (ℕ × ℕ)
-scanned v n = pick (eqb n 0) (refuses 1) (pick (ltb 10 n) (refuses 2) (gives (v, n)))
-
-pub record Found (s : List ℕ) (v n : ℕ) : Type 0 where
-  pub same : scanned v n ≡ readFrom s
 
 unfoldable pub paperU64 : ReadU64 → Answer (ℕ × ℕ)
 paperU64 (U.Value v n) = gives (v, n)

@@ -11,7 +11,8 @@ ghost use Rattle.paper.specs.Answer.{put, sizeOf};
 ghost use Rattle.varint.specs.Leb.{readU64, writeU64, lenU64};
 ghost use Rattle.varint.specs.Zigzag.{zigzag, unzigzag};
 ghost use Rattle.varint.specs.Number.{readI64, writeI64, lenI64};
-ghost use Rattle.varint.specs.Paper.{Found, paperU64, paperI64, paperWrote};
+ghost use Rattle.varint.specs.Scan.{Going, Found};
+ghost use Rattle.varint.specs.Paper.{paperU64, paperI64, paperWrote};
 
 // Upper bound on the bytes of a 64-bit number: seven bits a byte.
 pub const MAX_VARINT_BYTES: usize = 10;
@@ -112,18 +113,19 @@ fn grown(value: u64, byte: u8, i: usize) -> u64
 }
 
 // The value and the bytes taken: none where the buffer ends sooner, eleven where one byte more is wanted.
-// Two words, which come back in registers; an enum comes back through memory.
 struct Scanned {
     value: u64,
     taken: usize,
 }
 
-// The number at the start of `s`.
-fn scan(s: &[u8]) -> Scanned
+// The number at the start of `s`, from byte `start` on: the bytes before it add up to `sum`. The start is a parameter, so that
+// the loop is laid out anew, and unrolled, in each caller: a slice and two words go through memory at a call.
+fn scan(s: &[u8], sum: u64, start: usize) -> Scanned
+    requires { ⌜ (start ≤ 10) × Going (now s) sum start ⌝ }
     ensures { λ r. ⌜ Found (now (s .entry)) (r .value) (r .taken) ⌝ }
 {
-    let mut value: u64 = 0;
-    let mut i: usize = 0;
+    let mut value = sum;
+    let mut i = start;
     while i < MAX_VARINT_BYTES {
         if s.len() <= i {
             return Scanned { value: 0, taken: 0 };
@@ -144,18 +146,14 @@ fn scan(s: &[u8]) -> Scanned
     }
 }
 
-// Reads a number from `buf` at `pos`, which may be any number. One byte is the common case, and needs no scan.
+// Reads a number from `buf` at `pos`, which may be any number.
 pub fn read_u64(buf: &[u8], pos: usize) -> ReadU64
     ensures { λ r. ⌜ paperU64 r ≡ readU64 (now (buf .entry)) pos ⌝ }
 {
     if buf.len() <= pos {
         return ReadU64::Refused(1);
     }
-    let byte = buf[pos];
-    if byte < 128 {
-        return ReadU64::Value(wide(byte), 1);
-    }
-    let found = scan(&buf[pos..]);
+    let found = scan(&buf[pos..], 0, 0);
     if found.taken == 0 {
         return ReadU64::Refused(1);
     }
@@ -165,7 +163,7 @@ pub fn read_u64(buf: &[u8], pos: usize) -> ReadU64
     ReadU64::Value(found.value, found.taken)
 }
 
-// Reads a signed number: LEB128, then ZigZag.
+// Reads a signed number: LEB128, then ZigZag. One byte is the common case.
 pub fn read_i64(buf: &[u8], pos: usize) -> ReadI64
     ensures { λ r. ⌜ paperI64 r ≡ readI64 (now (buf .entry)) pos ⌝ }
 {
@@ -176,7 +174,7 @@ pub fn read_i64(buf: &[u8], pos: usize) -> ReadI64
     if byte < 128 {
         return ReadI64::Value(zigzag_decode(wide(byte)), 1);
     }
-    let found = scan(&buf[pos..]);
+    let found = scan(&buf[pos..], wide(byte) % 128, 1);
     if found.taken == 0 {
         return ReadI64::Refused(1);
     }

@@ -8,5 +8,5 @@ read-i64-spec =
     tie.close
     (tie.spec
     (λ c. search signed) (λ c. search signed) (λ c κs. search signed) (λ c κs. search signed) (λ c. search signed)
-    (λ c. search signed) (λ c. search signed) (λ c. search signed) (λ c κs. search signed) (λ c. search signed)
-    (λ c. search signed) (λ c κs. search signed) (λ c. search signed))
+    (λ c. search signed) (λ c. search signed) (λ c. search signed) (λ c κs. search signed) (λ c κs. search signed)
+    (λ c. search signed) (λ c. search signed) (λ c κs. search signed) (λ c. search signed))

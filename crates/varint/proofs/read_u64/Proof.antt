@@ -7,6 +7,5 @@ pub read-u64-spec : {M : Type 1} → statement M
 read-u64-spec =
     tie.close
     (tie.spec
-    (λ c. search reading) (λ c. search reading) (λ c κs. search reading) (λ c. search reading) (λ c. search reading)
-    (λ c. search reading) (λ c. search reading) (λ c κs. search reading) (λ c. search reading) (λ c. search reading)
-    (λ c. search reading))
+    (λ c. search reading) (λ c. search reading) (λ c. search reading) (λ c. search reading) (λ c κs. search reading)
+    (λ c. search reading) (λ c. search reading) (λ c. search reading))

@@ -1,6 +1,7 @@
 -- `varint::scan` meets its contract: at each turn, what is left, resumed from here, is the answer. Assumes nothing.
 use Prim.Native.Nat.{_-_}
-use Rattle.varint.proofs.Reading.{Going, reading}
+use Rattle.varint.specs.Scan.{Going}
+use Rattle.varint.proofs.Reading.{reading}
 use Rattle.varint.proofs.scan.Statement.{statement}
 use Rattle.varint.proofs.scan.Tie as tie
 
@@ -8,8 +9,8 @@ pub scan-spec : {M : Type 1} → statement M
 scan-spec =
     tie.close
     (tie.spec
-    (λ s value₀ i₀ value i. Going s value i)
-    (λ s value₀ i₀ value i. 10 - i)
+    (λ s sum start value₀ i₀ value i. Going s value i)
+    (λ s sum start value₀ i₀ value i. 10 - i)
     (λ c. search reading)
     (λ c. search reading)
     (λ c. search reading)
