@@ -4,6 +4,7 @@ use mathlib.Core.Path.{_≡_, refl, sym, _∙_, ap}
 use mathlib.Core.Bool.{Bool, true, false}
 use mathlib.Core.List.{List, _++_}
 use Prim.Native.Nat.{ℕ, _≤_, _<_}
+use native.Mathlib.Omega.{arith}
 use lib.Dec.{leb, ltb, eqb}
 use lib.ListN.{length, drop}
 use borrow.Author.Needs.{needs}
@@ -19,6 +20,23 @@ one-answer paper exact d a b p q = exact a b (p ∙ sym q)
 
 pub one-content : {A : Type 0} (d x y : A) → x ≡ d → y ≡ d → x ≡ y
 one-content d x y p q = p ∙ sym q
+
+-- the parts of a pair, for `ap`
+abbrev pub first : {A B : Type 0} → A × B → A
+first p = p .0
+
+abbrev pub second : {A B : Type 0} → A × B → B
+second p = p .1
+
+-- ---- an answer gives or refuses, and says what
+pub gives-one : {A : Type 0} {a b : A} → gives a ≡ gives b → a ≡ b
+gives-one e = cc
+
+pub refuses-one : {A : Type 0} {k l : ℕ} → _≡_ {A = Answer A} (refuses k) (refuses l) → k ≡ l
+refuses-one e = cc
+
+pub gives-refuses : {A : Type 0} {a : A} {k : ℕ} → gives a ≡ refuses k → ⊥
+gives-refuses e = let z : _≡_ {A = ℕ} 0 1 = cc in omega arith
 
 -- ---- tests: each closes one branch of a definition, by the fact that the code's own test gives there
 module _ {A : Type 0} {x : A} (a b : ℕ) (p q : A) where

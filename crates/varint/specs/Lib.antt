@@ -1,4 +1,5 @@
 pub mod Leb
+pub mod Standard
 pub mod Zigzag
 pub mod Number
 pub mod Paper
