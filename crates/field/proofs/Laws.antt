@@ -1,0 +1,29 @@
+-- Reading after writing, for every width.
+-- Assumes nothing.
+use mathlib.Core.Path.{_≡_, refl, sym, _∙_, ap}
+use mathlib.Core.List.{List, [], _∷_, _++_}
+use Prim.Native.Nat.{ℕ, zero, suc, _+_, _*_, _/_, _%_, _^_, _≤_, _<_}
+use native.Mathlib.Nat.{zero-add, add-zero}
+use native.Mathlib.Omega.{arith}
+use lib.ListN.{length, take, drop, getD}
+use lib.Seq.{getD-drop, drop-cons, drop-drop}
+use lib.Pow.{pow-add, shr-lt}
+use Rattle.field.specs.Field.{le, bytes}
+
+-- a field depends on the bytes from its place on, and no others
+pub le-drop : (n i j : ℕ) (s : List ℕ) → le n i (drop j s) ≡ le n (j + i) s
+le-drop zero i j s = refl
+le-drop (suc n) i j s =
+    let e : j + suc i ≡ suc (j + i) = omega arith in
+    rw (getD-drop j s i 0, le-drop n (suc i) j s, e)
+
+-- what is written is read back, with anything behind it
+pub le-bytes : (n v : ℕ) (t : List ℕ) → v < 2 ^ (8 * n) → le n 0 (bytes n v ++ t) ≡ v
+unfolding bytes
+le-bytes zero v t h = omega arith
+le-bytes (suc n) v t h =
+    let f : 8 * suc n ≡ 8 * n + 8 = omega arith in
+    let l : v / 256 < 2 ^ (8 * n) = shr-lt (8 * n) 8 (rw f at h) in
+    let d : le n 1 (v % 256 ∷ (bytes n (v / 256) ++ t)) ≡ v / 256
+    = sym (le-drop n 0 1 (v % 256 ∷ (bytes n (v / 256) ++ t))) ∙ le-bytes n (v / 256) t l in
+    rw d (omega arith)
