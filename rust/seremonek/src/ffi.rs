@@ -1,7 +1,7 @@
-//! The C interface, as it is. One declaration to a line: `tests/interface.rs` reads this file.
+//! The C interface, as it is. All declarations stand in the one block below: `tests/interface.rs` reads it.
 //!
-//! A slice is a pointer and its length; the pointer is valid for that length and is not null. `answer` is one array, written only by a call
-//! that is accepted. A `u32` result is 0 or the number of a refusal.
+//! A slice is a pointer and its length, which is called as the slice is, with `_len`; the pointer is valid for that length and is not null. `answer`
+//! is one array, written only by a call that is accepted. A `u32` result is 0 or the number of a refusal.
 
 unsafe extern "C" {
     // varint
