@@ -49,8 +49,8 @@ uint64_t smk_u64_len(uint64_t value);
 uint64_t smk_i64_len(int64_t value);
 
 /* 2v for v >= 0, -2v - 1 for v < 0; and back. */
-uint64_t smk_zigzag_encode(int64_t v);
-int64_t smk_zigzag_decode(uint64_t v);
+uint64_t smk_zigzag_encode(int64_t value);
+int64_t smk_zigzag_decode(uint64_t value);
 
 #ifdef __cplusplus
 }

@@ -11,6 +11,6 @@ unsafe extern "C" {
     pub fn smk_write_i64(value: i64, out: *mut u8, out_len: usize, answer: *mut [u64; 1]) -> u32;
     pub fn smk_u64_len(value: u64) -> u64;
     pub fn smk_i64_len(value: i64) -> u64;
-    pub fn smk_zigzag_encode(v: i64) -> u64;
-    pub fn smk_zigzag_decode(v: u64) -> i64;
+    pub fn smk_zigzag_encode(value: i64) -> u64;
+    pub fn smk_zigzag_decode(value: u64) -> i64;
 }
