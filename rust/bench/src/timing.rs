@@ -8,8 +8,11 @@ pub struct Table {
 }
 
 impl Table {
-    /// Prints the heading.
+    /// Prints the heading: the machine, since a ratio is one machine's.
     pub fn new(rounds: usize, names: Vec<String>) -> Table {
+        let processors = std::fs::read_to_string("/proc/cpuinfo").unwrap_or_default();
+        let model = processors.lines().find_map(|line| line.strip_prefix("model name")).unwrap_or(": a processor that gives no name");
+        println!("bench: {rounds} rounds of each side, on {}", model.trim_start_matches([' ', '\t', ':']));
         println!("{:<28} {:>7}  {:>15}  {:>9} {:>9}", "case", "ratio", "10th to 90th", "ours ns", "Rust ns");
         Table { rounds, names }
     }

@@ -137,3 +137,76 @@ fn field(before: &[u8], bytes: &[u8]) -> String {
     }
     text
 }
+
+#[cfg(test)]
+mod tests {
+    use super::*;
+
+    /// Reads a field of bytes into `buf`, over what stands there, and answers how many places it covers.
+    fn fill(field: &str, buf: &mut Vec<u8>) -> usize {
+        let hex = |from: usize, to: usize| usize::from_str_radix(&field[from..to], 16).unwrap();
+        let (mut at, mut n) = (0, 0);
+        while at < field.len() && field != "-" {
+            let (count, byte, next) = match &field[at..=at] {
+                "_" => (hex(at + 1, at + 5), None, at + 5),
+                "x" => (hex(at + 1, at + 5), Some(hex(at + 5, at + 7) as u8), at + 7),
+                _ => (1, Some(hex(at, at + 2) as u8), at + 2),
+            };
+            buf.resize(buf.len().max(n + count), 0);
+            byte.into_iter().for_each(|byte| buf[n..n + count].fill(byte));
+            (at, n) = (next, n + count);
+        }
+        n
+    }
+
+    #[test]
+    fn what_is_written_is_read_back() {
+        let mut random = crate::random::Random::new(3);
+        let mut longest = 0;
+        for _ in 0..2000 {
+            // Few values, so that runs, zeros and bytes that stay as they were all come up.
+            let length = random.below(60) as usize;
+            let some = |random: &mut crate::random::Random| -> Vec<u8> {
+                let mut bytes = Vec::new();
+                while bytes.len() < length {
+                    let run = 1 + random.below(9) as usize;
+                    let byte = *random.pick(&[0, 0, 1, 0xFF]);
+                    bytes.extend(vec![byte; run]);
+                }
+                bytes.truncate(length);
+                bytes
+            };
+            let before = some(&mut random);
+            let mut written = some(&mut random);
+            written.truncate(random.below(length as u64 + 1) as usize);
+
+            let text = fresh(&before);
+            let mut read = Vec::new();
+            assert_eq!(fill(&text, &mut read), before.len(), "{text}");
+            assert_eq!(read, before, "{text}");
+            assert!(!text.is_empty() && !text.contains(' '));
+
+            let text = changed(&before, &written);
+            fill(&text, &mut read);
+            assert_eq!(read[..written.len()], written, "{text}");
+            assert_eq!(read[written.len()..], before[written.len()..], "{text}");
+            longest = longest.max(text.len());
+        }
+        assert!(longest > 20);
+    }
+
+    #[test]
+    fn the_notation_by_example() {
+        assert_eq!(fresh(&[]), "-");
+        assert_eq!(fresh(&[0xAC, 0x02]), "ac02");
+        let mut page = vec![0; 4089];
+        page[..4].copy_from_slice(&[0x00, 0x00, 0xF9, 0x0F]);
+        assert_eq!(fresh(&page), "0000f90f_0ff5");
+        assert_eq!(fresh(&[0xFF; 11]), "x000bff");
+        let mut after = page.clone();
+        after[..6].copy_from_slice(&[0x01, 0x00, 0xF5, 0x0F, 0xF5, 0x0F]);
+        after[4085..].copy_from_slice(&[0x03, 0x01, 0x00, 0x00]);
+        assert_eq!(changed(&page, &after), "0100f50ff50f_0fef0301");
+        assert_eq!(changed(&page, &page), "-");
+    }
+}
