@@ -103,6 +103,11 @@ fn leb(value: u64, length: usize) -> Vec<u8> {
     (0..length).map(|i| group(i) | if i + 1 < length { 0x80 } else { 0 }).collect()
 }
 
+/// The pattern of the signed number that is encoded as `value` is; so the limits of the one are those of the other.
+fn signed_like(value: u64) -> u64 {
+    (value >> 1) ^ (value & 1).wrapping_neg()
+}
+
 /// `value` in every length that holds it, from the shortest to ten bytes.
 fn forms(value: u64) -> impl Iterator<Item = Vec<u8>> {
     let shortest = (1..=10).find(|k| *k == 10 || value >> (7 * k) == 0).unwrap();
@@ -228,16 +233,16 @@ fn sample(put: &mut dyn FnMut(&'static str, &Input)) {
         put(name, &reading(&[0xFF; 11], 1));
         put(name, &reading(&[0xFF; 11], 2));
     }
-    for name in WRITERS {
-        for value in &limits {
+    for (name, values) in [(WRITERS[0], limits.clone()), (WRITERS[1], limits.iter().map(|value| signed_like(*value)).collect())] {
+        for value in values {
             for size in SIZES {
-                put(name, &writing(*value, &(0xE0..).take(size).collect::<Vec<u8>>()));
+                put(name, &writing(value, &(0xE0..).take(size).collect::<Vec<u8>>()));
             }
         }
     }
     for name in DIRECT {
-        for value in inputs::limits().iter().chain(&limits) {
-            put(name, &writing(*value, &[]));
+        for value in inputs::limits().into_iter().chain(limits.iter().map(|value| signed_like(*value))) {
+            put(name, &writing(value, &[]));
         }
     }
 }
