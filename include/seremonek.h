@@ -1,0 +1,59 @@
+/* The C interface of Seremonek: the byte formats of a database pager, proved.
+ *
+ * Every function that can refuse returns a uint32_t: 0 where the call was accepted, else the number of the refusal (the list below). Answers go
+ * to `answer`, an array of the length that its declaration shows, in the order that its comment gives; a signed number there is its 64-bit pattern.
+ * A refused call leaves `answer`, and every other byte that it was lent, as it was. An accepted call writes the bytes of its answer from the start
+ * of an output and leaves the rest of the output as it was.
+ *
+ * A slice is a pointer and its length in bytes. The pointer is valid for that length, and is not null even where the length is 0. No slice that a
+ * call may write overlaps another slice of the same call, or `answer`.
+ *
+ * Refusals:
+ *    1 varint past the end                      15 bad value list
+ *    2 eleventh byte wanted                     16 output shorter than the answer
+ *    3 entry past the end                       17 nothing to chain
+ *    4 no kind byte                             18 too few page numbers
+ *    5 wrong kind                               19 unusable number
+ *    6 entry cut short                          20 page number at least P
+ *    7 value cut short                          21 type not T
+ *    8 not UTF-8                                22 payload above 4,089
+ *    9 unknown tag                              23 chain never ends
+ *   10 bytes left over                          24 chain length differs
+ *   11 page not well-formed                     25 a payload, a store or a list of a length that no call takes
+ *   12 slot or column at or above count         26 not one whole entry of that rowid
+ *   13 rowid or divider present                 27 `Value::Null` inside a value
+ *   14 does not fit
+ */
+#ifndef SEREMONEK_H
+#define SEREMONEK_H
+
+#include <stddef.h>
+#include <stdint.h>
+
+#ifdef __cplusplus
+extern "C" {
+#endif
+
+/* Varints: LEB128, signed numbers by ZigZag. */
+
+/* The number at `pos`, which may be any number. Answer: value, bytes taken. Refusals 1, 2. */
+uint32_t smk_read_u64(const uint8_t *buf, size_t buf_len, size_t pos, uint64_t answer[2]);
+uint32_t smk_read_i64(const uint8_t *buf, size_t buf_len, size_t pos, uint64_t answer[2]);
+
+/* Writes `value` in the fewest bytes. Answer: bytes written, 1 to 10. Refusal 16. */
+uint32_t smk_write_u64(uint64_t value, uint8_t *out, size_t out_len, uint64_t answer[1]);
+uint32_t smk_write_i64(int64_t value, uint8_t *out, size_t out_len, uint64_t answer[1]);
+
+/* How many bytes the write takes: 1 to 10. */
+uint64_t smk_u64_len(uint64_t value);
+uint64_t smk_i64_len(int64_t value);
+
+/* 2v for v >= 0, -2v - 1 for v < 0; and back. */
+uint64_t smk_zigzag_encode(int64_t value);
+int64_t smk_zigzag_decode(uint64_t value);
+
+#ifdef __cplusplus
+}
+#endif
+
+#endif

@@ -1,0 +1,54 @@
+//! Inputs that more than one layer tries.
+
+use crate::random::Random;
+
+/// Numbers on either side of every power of two, and so on either side of every limit of a varint, signed and unsigned; the ends included.
+pub fn limits() -> Vec<u64> {
+    let mut numbers: Vec<u64> = (0..64).flat_map(|k| [-1, 0, 1].map(|near| (1u64 << k).wrapping_add_signed(near))).collect();
+    numbers.extend(numbers.clone().iter().map(|n| n.wrapping_neg()));
+    numbers.sort_unstable();
+    numbers.dedup();
+    numbers
+}
+
+/// All buffers of up to 3 bytes, each read at every position from 0 to one past its end, and at some that are far out.
+///
+/// Of the 3-byte buffers a run that is not `whole` reads all at position 0, and at the later positions those with some of the first bytes.
+pub fn every_short(whole: bool, mut read: impl FnMut(&[u8], usize)) {
+    const FAR: [usize; 4] = [usize::MAX, usize::MAX - 1, usize::MAX / 2 + 1, 1 << 32];
+    for far in FAR {
+        read(&[], far);
+        read(&[0x80, 0x01], far);
+    }
+    for length in 0..3usize {
+        for word in 0..1u32 << (8 * length) {
+            for pos in 0..=length + 1 {
+                read(&word.to_be_bytes()[4 - length..], pos);
+            }
+        }
+    }
+    for word in 0..1u32 << 24 {
+        let buf = &word.to_be_bytes()[1..];
+        read(buf, 0);
+        if whole || matches!(buf[0], 0x00 | 0x01 | 0x7F | 0x80 | 0xFF) {
+            (1..=4).for_each(|pos| read(buf, pos));
+        }
+    }
+}
+
+/// A copy with something wrong in it: a bit turned, a byte replaced, dropped or put in, or the end cut off.
+pub fn damaged(good: &[u8], random: &mut Random) -> Vec<u8> {
+    let mut bad = good.to_vec();
+    if bad.is_empty() {
+        return bad;
+    }
+    let at = random.below(bad.len() as u64) as usize;
+    match random.below(5) {
+        0 => bad[at] ^= 1 << random.below(8),
+        1 => bad[at] = random.byte(),
+        2 => drop(bad.remove(at)),
+        3 => bad.insert(at, random.byte()),
+        _ => bad.truncate(at),
+    }
+    bad
+}

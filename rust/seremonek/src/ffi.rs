@@ -1,0 +1,16 @@
+//! The C interface, as it is. All declarations stand in the one block below: `tests/interface.rs` reads it.
+//!
+//! A slice is a pointer and its length, which is called as the slice is, with `_len`; the pointer is valid for that length and is not null. `answer`
+//! is one array, written only by a call that is accepted. A `u32` result is 0 or the number of a refusal.
+
+unsafe extern "C" {
+    // varint
+    pub fn smk_read_u64(buf: *const u8, buf_len: usize, pos: usize, answer: *mut [u64; 2]) -> u32;
+    pub fn smk_read_i64(buf: *const u8, buf_len: usize, pos: usize, answer: *mut [u64; 2]) -> u32;
+    pub fn smk_write_u64(value: u64, out: *mut u8, out_len: usize, answer: *mut [u64; 1]) -> u32;
+    pub fn smk_write_i64(value: i64, out: *mut u8, out_len: usize, answer: *mut [u64; 1]) -> u32;
+    pub fn smk_u64_len(value: u64) -> u64;
+    pub fn smk_i64_len(value: i64) -> u64;
+    pub fn smk_zigzag_encode(value: i64) -> u64;
+    pub fn smk_zigzag_decode(value: u64) -> i64;
+}

@@ -1,0 +1,50 @@
+/* Calls every function of include/seremonek.h as a C program would, on worked numbers of document 01. `c_header.rs` compiles, links and runs it, and fails
+ * where the header declares a function that is not called here. */
+#include "seremonek.h"
+
+#include <stdio.h>
+#include <string.h>
+
+static int failed = 0;
+
+static void expect(int holds, const char *what) {
+    if (!holds) {
+        printf("FAILED: %s\n", what);
+        failed = 1;
+    }
+}
+
+#define EXPECT(condition) expect((condition), #condition)
+
+static void varint(void) {
+    const uint8_t three_hundred[2] = {0xAC, 0x02};
+    const uint8_t goes_on[1] = {0x80};
+    uint64_t answer[3] = {7, 7, 7};
+    uint8_t out[12];
+
+    EXPECT(smk_read_u64(three_hundred, 2, 0, answer) == 0);
+    EXPECT(answer[0] == 300 && answer[1] == 2 && answer[2] == 7);
+    EXPECT(smk_read_u64(goes_on, 1, 0, answer) == 1);
+    EXPECT(answer[0] == 300 && answer[1] == 2);
+    EXPECT(smk_read_i64(three_hundred, 2, 1, answer) == 0);
+    EXPECT(answer[0] == 1 && answer[1] == 1 && answer[2] == 7);
+    EXPECT(smk_read_i64(three_hundred, 2, SIZE_MAX, answer) == 1);
+
+    memset(out, 0xEE, sizeof out);
+    EXPECT(smk_write_u64(UINT64_MAX, out, 10, answer) == 0);
+    EXPECT(answer[0] == 10 && answer[1] == 1 && out[8] == 0xFF && out[9] == 0x01 && out[10] == 0xEE);
+    EXPECT(smk_write_i64(-64, out, 10, answer) == 0);
+    EXPECT(answer[0] == 1 && out[0] == 0x7F && out[1] == 0xFF);
+    EXPECT(smk_write_i64(64, out, 1, answer) == 16);
+    EXPECT(answer[0] == 1 && out[0] == 0x7F);
+
+    EXPECT(smk_u64_len(127) == 1 && smk_u64_len(128) == 2);
+    EXPECT(smk_i64_len(-64) == 1 && smk_i64_len(64) == 2);
+    EXPECT(smk_zigzag_encode(INT64_MIN) == UINT64_MAX && smk_zigzag_encode(-1) == 1);
+    EXPECT(smk_zigzag_decode(UINT64_MAX) == INT64_MIN && smk_zigzag_decode(128) == 64);
+}
+
+int main(void) {
+    varint();
+    return failed;
+}
