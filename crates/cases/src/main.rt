@@ -1,5 +1,6 @@
-// Runs the numbers of document 01, "Numbers on either side", through the code and writes one line for each. The file stdout
-// beside src/ has the answers, as that document gives them. A layer has its module, and its lines here.
+// Runs numbers of document 01 through the code, on either side of each limit, and writes a line for each: the file stdout beside src/
+// has the lines that are right. What the document marks with a star is proved besides, of the definitions: specs/Rows.antt.
+// Each layer has a module of its own, and its lines here.
 mod numbers;
 mod print;
 

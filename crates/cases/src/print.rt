@@ -1,5 +1,4 @@
 // Pieces of a line.
-ghost use Prim.Native.Nat.{_<_};
 use libc::STDOUT_FILENO;
 
 pub fn text(s: &[u8]) {
@@ -20,16 +19,12 @@ pub fn signed(v: i64) {
     }
 }
 
+const DIGITS: [u8; 16] = *b"0123456789ABCDEF";
+
 // A byte after a blank, as document 01 writes it: two digits in upper case.
 pub fn byte(b: u8) {
-    let spelled = [b' ', digit(b / 16), digit(b % 16)];
+    let spelled = [b' ', DIGITS[b as usize / 16], DIGITS[b as usize % 16]];
     text(&spelled);
-}
-
-fn digit(d: u8) -> u8
-    requires { ⌜ d < 16 ⌝ }
-{
-    if d < 10 { b'0' + d } else { b'A' + (d - 10) }
 }
 
 pub fn bytes(s: &[u8]) {
