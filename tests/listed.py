@@ -14,7 +14,7 @@ def disagreements(root):
         name, colon, _ = line.partition("#")[0].partition(":")
         if colon:
             listed.add(name.strip())
-    there = {path.name for path in (root / "crates").iterdir()}
+    there = {path.name for path in (root / "crates").iterdir() if path.is_dir()}
     complaints = [f"crates/{name} is not listed in crates.txt" for name in sorted(there - listed)]
     complaints += [f"crates.txt lists {name}, and there is no crates/{name}" for name in sorted(listed - there)]
     return complaints, len(there & listed)

@@ -21,9 +21,6 @@ fn unsigned() {
     numbers::read(b"\xFF\xFF\xFF\xFF\xFF\xFF\xFF\xFF\xFF\x80");
     numbers::read(b"\x80");
     numbers::read(b"");
-    numbers::read_at(b"\xAC\x02", 1);
-    numbers::read_at(b"\xAC\x02", 2);
-    numbers::read_at(b"\xAC\x02", usize::MAX);
     numbers::write_to_one(127);
     numbers::write_to_one(300);
 }

@@ -7,20 +7,8 @@ use varint::Wrote;
 pub fn read(bytes: &[u8]) {
     print::text(b"read");
     print::bytes(bytes);
-    read_is(varint::read_u64(bytes, 0));
-}
-
-pub fn read_at(bytes: &[u8], pos: usize) {
-    print::text(b"read");
-    print::bytes(bytes);
-    print::text(b" at ");
-    print::number(pos as u64);
-    read_is(varint::read_u64(bytes, pos));
-}
-
-fn read_is(answer: ReadU64) {
     print::text(b":");
-    match answer {
+    match varint::read_u64(bytes, 0) {
         ReadU64::Value(value, bytes) => {
             print::text(b" ");
             print::number(value);
