@@ -1,0 +1,41 @@
+-- The cases that document 01 marks with a star, under "Numbers on either side", in its order. Bytes are in hexadecimal.
+use Prim.Native.Nat.{ℕ, _-_, _^_}
+use mathlib.Core.List.{List, [], _∷_}
+use lib.IntN.{ℤ, pos, negℤ}
+use Rattle.paper.specs.Answer.{gives, refuses}
+use Rattle.cases.specs.Question.{Row, _⇒_, read-u64, write-u64, zigzag-encode, zigzag-decode}
+
+abbrev minus : ℕ → ℤ
+minus n = negℤ (pos n)
+
+abbrev nine : ℕ → List ℕ → List ℕ
+nine b then = b ∷ b ∷ b ∷ b ∷ b ∷ b ∷ b ∷ b ∷ b ∷ then
+
+unfoldable pub rows : List Row
+rows =
+    -- 300 is AC 02
+    (write-u64 300 ⇒ gives (0xAC ∷ 0x02 ∷ []))
+    ∷ (read-u64 (0xAC ∷ 0x02 ∷ []) ⇒ gives (300 ∷ 2 ∷ []))
+    -- 16,383 is FF 7F
+    ∷ (write-u64 16_383 ⇒ gives (0xFF ∷ 0x7F ∷ []))
+    ∷ (read-u64 (0xFF ∷ 0x7F ∷ []) ⇒ gives (16_383 ∷ 2 ∷ []))
+    -- 2^64 - 1 is nine FF, then 01
+    ∷ (write-u64 (2 ^ 64 - 1) ⇒ gives (nine 0xFF (0x01 ∷ [])))
+    ∷ (read-u64 (nine 0xFF (0x01 ∷ [])) ⇒ gives ((2 ^ 64 - 1) ∷ 10 ∷ []))
+    -- nine 80, then 02 reads 0, ten bytes
+    ∷ (read-u64 (nine 0x80 (0x02 ∷ [])) ⇒ gives (0 ∷ 10 ∷ []))
+    -- nine FF, then 80: 2
+    ∷ (read-u64 (nine 0xFF (0x80 ∷ [])) ⇒ refuses 2)
+    -- 80 alone: 1
+    ∷ (read-u64 (0x80 ∷ []) ⇒ refuses 1)
+    -- ZigZag: -1 to 1, -64 to 127, 64 to 128, least i64 to 2^64 - 1
+    ∷ (zigzag-encode (minus 1) ⇒ gives (1 ∷ []))
+    ∷ (zigzag-encode (minus 64) ⇒ gives (127 ∷ []))
+    ∷ (zigzag-encode (pos 64) ⇒ gives (128 ∷ []))
+    ∷ (zigzag-encode (minus (2 ^ 63)) ⇒ gives ((2 ^ 64 - 1) ∷ []))
+    -- and back: a negative number by its pattern
+    ∷ (zigzag-decode 1 ⇒ gives ((2 ^ 64 - 1) ∷ []))
+    ∷ (zigzag-decode 127 ⇒ gives ((2 ^ 64 - 64) ∷ []))
+    ∷ (zigzag-decode 128 ⇒ gives (64 ∷ []))
+    ∷ (zigzag-decode (2 ^ 64 - 1) ⇒ gives (2 ^ 63 ∷ []))
+    ∷ []
