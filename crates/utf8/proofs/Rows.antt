@@ -12,15 +12,9 @@ use borrow.Author.Tests.{le-leb, lt-leb, leb-true}
 use Rattle.paper.specs.Answer.{pick}
 use Rattle.utf8.specs.Table.{Range, _‥_, Row, table}
 use Rattle.utf8.specs.WellFormed.{In, Fits, done, byte, OfRows, end, row, inside, begun, after, whole, completes, wellFormed}
+use Rattle.utf8.proofs.Cases.{by-test, never}
 
 -- ---- one byte and one range
-
-by-test : {A : Type 0} (x : Bool) → (x ≡ true → A) → (x ≡ false → A) → A
-by-test true f g = f refl
-by-test false f g = g refl
-
-never : {A : Type 0} → true ≡ false → A
-never e = absurd (let z : _≡_ {A = ℕ} 0 1 = cc in omega arith)
 
 pub inside-in : (r : Range) (b : ℕ) → In r b → inside r b ≡ true
 unfolding inside pick
@@ -33,7 +27,7 @@ inside-above lo hi b h = by-test (leb lo b) (λ e. rw (e, lt-leb b hi h)) (λ e.
 in-inside : (r : Range) (b : ℕ) → inside r b ≡ true → In r b
 unfolding inside pick
 in-inside (lo ‥ hi) b e =
-    by-test (leb lo b) (λ low. (leb-true lo b low, leb-true b hi (rw low at e))) (λ low. never (sym (rw low at e)))
+    by-test (leb lo b) (λ low. (leb-true lo b low, leb-true b hi (rw low at e))) (λ low. never (rw low at e))
 
 -- ---- the row that a byte begins
 
@@ -124,13 +118,13 @@ record Completed (rs : Row) (s : List ℕ) : Type 0 where
 
 nowhere : (s : List ℕ) → completes none s ≡ true → ⊥
 unfolding completes after whole
-nowhere [] e = never (sym e)
+nowhere [] e = never e
 nowhere (b ∷ s) e = nowhere s e
 
 passed : (rs : Row) (s : List ℕ) → completes (some rs) s ≡ true → Completed rs s
 unfolding completes after whole pick
 passed [] [] e = record { head = []; tail = []; split = refl; fits = done; rows = end }
-passed (r ∷ rs) [] e = never (sym e)
+passed (r ∷ rs) [] e = never e
 passed [] (b ∷ s) e = go (begun table b) refl e (λ (rs : Row). passed rs s)
   where
     go : (o : Option Row) → begun table b ≡ o → completes o s ≡ true → ((rs : Row) → completes (some rs) s ≡ true → Completed rs s) → Completed [] (b ∷ s)

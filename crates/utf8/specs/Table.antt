@@ -3,7 +3,6 @@ use Prim.Native.Nat.{ℕ}
 use mathlib.Core.List.{List, [], _∷_}
 
 infix 70 _‥_
-
 -- the bytes from the first to the last, both of them counted
 pub data Range : Type 0 where
   _‥_ : ℕ → ℕ → Range
