@@ -1,0 +1,1 @@
+// UTF-8: Unicode's Table 3-7 decides.
