@@ -1,0 +1,6 @@
+pub mod Entry
+pub mod Block
+pub mod Local
+pub mod Content
+pub mod ValueList
+pub mod Written

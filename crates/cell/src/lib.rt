@@ -1,0 +1,1 @@
+// Cells: the port of cell.rs.
