@@ -47,9 +47,10 @@ text-inside body at {e} g = by (readU64 body at) refl g
         let c : len ≤ length body - (at + n) = ltb-false (length body - (at + n)) len t in
         (omega arith, omega arith)
     by2 len n false false i t g = absurd (gives-refuses g)
+
     by : (a : Answer (ℕ × ℕ)) → readU64 body at ≡ a
         → gives e ≡ andThen a (λ (len, n). pick (ltb (length body - (at + n)) len) (refuses 7)
-          (pick (wellFormed (take len (drop (at + n) body))) (gives (at + n + len)) (refuses 8))) → (at ≤ e) × (e ≤ length body)
+        (pick (wellFormed (take len (drop (at + n) body))) (gives (at + n + len)) (refuses 8))) → (at ≤ e) × (e ≤ length body)
     by (gives p) h g = by2 (p .0) (p .1) (ltb (length body - (at + p .1)) (p .0)) (wellFormed (take (p .0) (drop (at + p .1) body))) (read-inside body at h) refl g
     by (refuses k) h g = absurd (gives-refuses g)
 
@@ -64,6 +65,7 @@ vector-inside body at {e} g = by (readU64 body at) refl g
         let d : e ≡ at + n + 4 * dim = gives-one g in
         let c : dim ≤ (length body - (at + n)) / 4 = ltb-false ((length body - (at + n)) / 4) dim t in
         (omega arith, omega arith)
+
     by : (a : Answer (ℕ × ℕ)) → readU64 body at ≡ a
         → gives e ≡ andThen a (λ (dim, n). pick (ltb ((length body - (at + n)) / 4) dim) (refuses 7) (gives (at + n + 4 * dim)))
         → (at ≤ e) × (e ≤ length body)
@@ -101,12 +103,12 @@ block-of-inside t tag3 body at h g = fixed-inside body at 1 h (g ∙ bool-end bo
 block-of-inside t tag4 body at h g = vector-inside body at (g ∙ vector-link body at)
 block-of-inside t (other l) body at {e} h g = absurd (gives-refuses (g ∙ unknown t body at l))
 
-
 pub block-inside : (body : List ℕ) (at : ℕ) {e : ℕ} → gives e ≡ blockEnd body at → (at < e) × (e ≤ length body)
 block-inside body at {e} g = by (ltb at (length body)) refl
   where
     past : length body ≤ at → blockEnd body at ≡ refuses 7
     past l = block-missing body at l
+
     by : (t : Bool) → ltb at (length body) ≡ t → (at < e) × (e ≤ length body)
     by true t =
         let h : at < length body = ltb-true at (length body) t in
@@ -141,6 +143,7 @@ columns-step n c map body at = by (pick (isNull body map c) (gives (null, at)) (
         andThen {B = ℕ} (andThen {B = List Block × ℕ} a (λ (bs, end). gives (b ∷ bs, end))) (λ (bs, end). gives end) ≡ andThen a (λ (bs, end). gives end)
     by2 b (gives p) = refl
     by2 b (refuses k) = refl
+
     by : (a : Answer (Block × ℕ)) →
         andThen {B = ℕ} (andThen {B = List Block × ℕ} a (λ (b, next). andThen (columns n (c + 1) map body next) (λ (bs, end). gives (b ∷ bs, end)))) (λ (bs, end). gives end)
         ≡ andThen (andThen a (λ (b, end). gives end)) (λ next. andThen (columns n (c + 1) map body next) (λ (bs, end). gives end))
@@ -196,5 +199,15 @@ unfolding isNull
 null-bit body map c e = rw e
 
 pub ruleset walks = (
-  needs, eight, null-bit, column-null, column-block, walking-start, walking-index, walking-inside, walking-refused, walking-more, walking-end
+  needs,
+  eight,
+  null-bit,
+  column-null,
+  column-block,
+  walking-start,
+  walking-index,
+  walking-inside,
+  walking-refused,
+  walking-more,
+  walking-end,
 )

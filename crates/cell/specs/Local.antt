@@ -49,9 +49,12 @@ moved k (vector at dim) = vector (k + at) dim
 unfoldable pub nth : List Block → ℕ → Block
 nth bs c = getD bs c null
 
--- the entry's refusals, then 12
-unfoldable pub valueAt : List ℕ → ℕ → ℕ → Answer Block
-valueAt s pos column =
-    andThen (framed (drop pos s))
-    (λ (n, len). andThen (localBody (bodyAt (drop pos s) n len))
+-- the entry's refusals, then 12; the entry stands at the start of s, which is place pos of the caller's buffer
+unfoldable pub valueFrom : List ℕ → ℕ → ℕ → Answer Block
+valueFrom s pos column =
+    andThen (framed s)
+    (λ (n, len). andThen (localBody (bodyAt s n len))
     (λ (rowid, bs). pick (ltb column (length bs)) (gives (moved (pos + n) (nth bs column))) (refuses 12)))
+
+unfoldable pub valueAt : List ℕ → ℕ → ℕ → Answer Block
+valueAt buf pos column = valueFrom (drop pos buf) pos column
