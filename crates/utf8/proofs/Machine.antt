@@ -9,15 +9,14 @@ use mathlib.Core.Bool.{Bool, true, false, not}
 use mathlib.Core.List.{List, [], _∷_}
 use mathlib.Core.Option.{Option, none, some}
 use lib.Dec.{T, leb, eqb, leb→le, eqb→eq}
-use lib.ListN.{length, getD, drop, drop-of-length-le}
+use lib.ListN.{length, getD, drop, replicate, drop-of-length-le}
 use lib.Seq.{drop-cons}
 use borrow.Author.Tests.{ne-eqb}
-use borrow.Author.Needs.{needs}
 use Rattle.paper.specs.Answer.{pick}
 use Rattle.utf8.specs.Table.{Range, _‥_, Row}
 use Rattle.utf8.specs.WellFormed.{after, completes, whole, wellFormed}
 use Rattle.utf8.specs.Ascii.{Passed}
-use Rattle.utf8.specs.Machine.{states, leftBy, State, resumed, Moves, Reads, every, sameRange, sameRow, sameLeft, sample, alike, Chart, isState, packed, Packs}
+use Rattle.utf8.specs.Machine.{states, leftBy, State, resumed, Moves, Reads, every, sameRange, sameRow, sameLeft, sample, alike, Alike, Chart, lined, Line, isState, packed, Packs}
 use Rattle.utf8.proofs.Cases.{by-order}
 
 -- ---- what a test that computes says
@@ -77,37 +76,49 @@ state-is x t = record { six = eqb→eq (x % 64 % 6) 0 (first (eqb (x % 64 % 6) 0
 
 -- ---- one byte
 
-module _ (x b m : ℕ) (chart : List ℕ) (at : State x) (c : Chart chart) (h : b < 256) (p : Packs (getD chart b 0 % 16) m) where
+module _ (x c m : ℕ) (h : State x) (p : Packs (c % 16) m) where
   number : x % 64 / 6 < length states
   unfolding states
   number = omega arith
 
-  shift : 6 * (x % 64 / 6) ≡ x % 64
-  shift = omega arith
-
-  like : after (leftBy x) b ≡ after (leftBy x) (sample (getD chart b 0 % 16))
-  unfolding alike leftBy
-  like =
-      same-left _ _
-      (every-at (λ q p. sameLeft (after p b) (after p (sample (getD chart b 0 % 16)))) none states
-      (every-at alike 0 chart (c .alikes) b (omega (arith, c .bytes))) (x % 64 / 6) number)
-
-  at-state : T (pick (isState (m / 2 ^ (x % 64))) (sameLeft (after (leftBy x) (sample (getD chart b 0 % 16))) (leftBy (m / 2 ^ (x % 64)))) false)
+  at-state : T (pick (isState (m / 2 ^ (x % 64))) (sameLeft (after (leftBy x) (sample (c % 16))) (leftBy (m / 2 ^ (x % 64)))) false)
   unfolding packed leftBy
   at-state =
+      let shift : 6 * (x % 64 / 6) ≡ x % 64 = omega arith in
       rw shift at
-      (every-at (λ q p. pick (isState (m / 2 ^ (6 * q))) (sameLeft (after p (sample (getD chart b 0 % 16))) (leftBy (m / 2 ^ (6 * q)))) false) none states (p .fields)
-      (x % 64 / 6) number)
+      (every-at (λ q p. pick (isState (m / 2 ^ (6 * q))) (sameLeft (after p (sample (c % 16))) (leftBy (m / 2 ^ (6 * q)))) false) none states
+      (p .fields) (x % 64 / 6) number)
 
-  pub moved : Moves x b (m / 2 ^ (x % 64))
+  like : (b : ℕ) → Alike b c → after (leftBy x) b ≡ after (leftBy x) (sample (c % 16))
+  unfolding alike leftBy
+  like b a =
+      same-left _ _
+      (every-at (λ q p. sameLeft (after p b) (after p (sample (c % 16)))) none states (a .bytes) (x % 64 / 6) number)
+
+  pub moved : Moves x c (m / 2 ^ (x % 64))
   unfolding resumed completes
   moved =
       record {
         state = state-is _ (first _ _ at-state);
-        same = λ s. ap (λ (o : Option Row). completes o s) (like ∙ same-left _ _ (second _ _ at-state));
+        same = λ b a s. ap (λ (o : Option Row). completes o s) (like b a ∙ same-left _ _ (second _ _ at-state));
       }
 
--- ---- a class's number
+-- ---- the class of a byte
+
+pub chart-alike : (chart : List ℕ) (b : ℕ) {c : ℕ} → Chart chart → b < 256 → c ≡ getD chart b 0 → Alike b c
+chart-alike chart b k h e = record { bytes = rw e (every-at alike 0 chart (k .letters) b (omega (arith, k .full))) }
+
+pub line-alike : (b m : ℕ) → Line (b / 16) m → Alike b (m / 2 ^ (b % 16 * 4))
+unfolding lined
+line-alike b m k =
+    let e : 16 * (b / 16) + b % 16 ≡ b = omega arith in
+    record {
+      bytes =
+          subst (λ (n : ℕ). T (alike n (m / 2 ^ (b % 16 * 4)))) e
+          (every-at (λ (l _ : ℕ). alike (16 * (b / 16) + l) (m / 2 ^ (l * 4))) 0 (replicate 16 0) (k .digits) (b % 16) (omega arith));
+    }
+
+-- ---- a `match` on sixteen numbers
 
 pub packs-at : (k : ℕ) {x m : ℕ} → x ≡ k → T (packed k m) → Packs x m
 packs-at k e t = record { fields = rw e t }
@@ -121,17 +132,23 @@ none-of : (x k : ℕ) → NoneOf x k → k ≤ x
 none-of x zero r = omega arith
 none-of x (suc k) r = let h : k ≤ x = none-of x k (r .0) in let n : x ≡ k → ⊥ = r .1 in omega arith
 
-pub beyond : (c m : ℕ) → NoneOf (c % 16) 16 → Packs (c % 16) m
-beyond c m r = let h : 16 ≤ c % 16 = none-of (c % 16) 16 r in absurd (omega arith)
+pub line-at : (k : ℕ) {x m : ℕ} → x ≡ k → T (lined k m) → Line x m
+line-at k e t = record { digits = rw e t }
+
+pub beyond : {A : Type 0} (x : ℕ) → x < 16 → NoneOf x 16 → A
+beyond x l r = let h : 16 ≤ x = none-of x 16 r in absurd (omega arith)
 
 -- ---- a run of bytes
 
 pub reads-none : (s : List ℕ) {x : ℕ} (i : ℕ) → State x → Reads s x i x i
 reads-none s i h = record { state = h; same = refl }
 
-pub reads-more : {s : List ℕ} {x from y i z : ℕ} → Reads s x from y i → i < length s → Moves y (getD s i 0) z → Reads s x from z (i + 1)
-reads-more {s} {i = i} {z = z} r h m =
-    record { state = m .state; same = rw (add-one i) (r .same ∙ ap (resumed _) (drop-cons s i 0 h) ∙ m .same (drop (suc i) s)) }
+pub reads-more : {s : List ℕ} {x from y i c z : ℕ} → Reads s x from y i → i < length s → Moves y c z → Alike (getD s i 0) c → Reads s x from z (i + 1)
+reads-more {s} {i = i} r h m a =
+    record {
+      state = m .state;
+      same = rw (add-one i) (r .same ∙ ap (resumed _) (drop-cons s i 0 h) ∙ m .same (getD s i 0) a (drop (suc i) s));
+    }
 
 pub reads-on : {s : List ℕ} {x from y i z to : ℕ} → Reads s x from y i → Reads s y i z to → Reads s x from z to
 reads-on r q = record { state = q .state; same = r .same ∙ q .same }
@@ -190,5 +207,3 @@ module _ {s : List ℕ} {from y i : ℕ} (r : Reads s 0 from y i) where
 
   pub reads-past : {to : ℕ} → y % 64 ≡ 0 → Passed s i to → Reads s 0 from y to
   reads-past {to} e p = record { state = r .state; same = r .same ∙ at-first y (drop i s) e ∙ sym (p .same) ∙ sym (at-first y (drop to s) e) }
-
-pub ruleset reading = (needs, reads-none, reads-more, reads-on)

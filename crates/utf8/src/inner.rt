@@ -4,7 +4,7 @@ ghost use mathlib.Core.Bool.{true};
 ghost use Prim.Native.Nat.{_+_, _%_, _≤_, _<_};
 ghost use lib.ListN.{length, drop};
 ghost use Rattle.utf8.specs.WellFormed.{wellFormed};
-ghost use Rattle.utf8.specs.Machine.{State, Moves, Reads, Chart, Packs};
+ghost use Rattle.utf8.specs.Machine.{State, Moves, Reads, Alike, Chart, Line, Packs};
 ghost use Rattle.utf8.specs.Ascii.{word8, Ascii, Passed};
 
 // The high bit of each byte of a word.
@@ -35,7 +35,7 @@ const NO_ROW: u64 = 0o06_06_06_06_06_06_06_06_06;
 
 // Where a byte of this class leads from each state: two octal digits to a state, the first state's last.
 // All sixteen numbers are listed, so that this compiles to one load.
-fn moves(class: u8) -> u64
+fn moves(class: u64) -> u64
     ensures { λ r. ⌜ Packs (class % 16) r ⌝ }
 {
     match class % 16 {
@@ -59,11 +59,19 @@ fn moves(class: u8) -> u64
     }
 }
 
-fn next(state: u64, byte: u8, chart: &[u8; 256]) -> u64
-    requires { ⌜ State state × Chart (now chart) ⌝ }
-    ensures { λ r. ⌜ Moves state byte r ⌝ }
+// The machine reads a byte of this class.
+fn step(state: u64, class: u64) -> u64
+    requires { ⌜ State state ⌝ }
+    ensures { λ r. ⌜ Moves state class r ⌝ }
 {
-    moves(chart[byte as usize]) >> (state % 64)
+    moves(class) >> (state % 64)
+}
+
+fn class_in(chart: &[u8; 256], byte: u8) -> u64
+    requires { ⌜ Chart (now chart) ⌝ }
+    ensures { λ r. ⌜ Alike byte r ⌝ }
+{
+    wide(chart[byte as usize])
 }
 
 // The machine reads s[from..to].
@@ -74,7 +82,7 @@ fn run(state: u64, s: &[u8], from: usize, to: usize, chart: &[u8; 256]) -> u64
     let mut x = state;
     let mut i = from;
     while i < to {
-        x = next(x, s[i], chart);
+        x = step(x, class_in(chart, s[i]));
         i += 1;
     }
     x
@@ -158,14 +166,60 @@ fn rest(s: &[u8], from: usize) -> bool
     run(x, s, i, s.len(), &chart) % 64 == 0
 }
 
-// Fewer than eight bytes, or any number: byte after byte, as long as they are ASCII.
+// A line of the chart in one word: the classes of sixteen bytes, four bits each, the first lowest. F stands for no row.
+fn line(high: u8) -> u64
+    requires { ⌜ high < 16 ⌝ }
+    ensures { λ r. ⌜ Line high r ⌝ }
+{
+    match high {
+        0x0 => 0x0000_0000_0000_0000,
+        0x1 => 0x0000_0000_0000_0000,
+        0x2 => 0x0000_0000_0000_0000,
+        0x3 => 0x0000_0000_0000_0000,
+        0x4 => 0x0000_0000_0000_0000,
+        0x5 => 0x0000_0000_0000_0000,
+        0x6 => 0x0000_0000_0000_0000,
+        0x7 => 0x0000_0000_0000_0000,
+        0x8 => 0x1111_1111_1111_1111,
+        0x9 => 0x2222_2222_2222_2222,
+        0xA => 0x3333_3333_3333_3333,
+        0xB => 0x3333_3333_3333_3333,
+        0xC => 0x4444_4444_4444_44FF,
+        0xD => 0x4444_4444_4444_4444,
+        0xE => 0x6676_6666_6666_6665,
+        0xF => 0xFFFF_FFFF_FFFA_9998,
+        _ => 0x0000_0000_0000_0000,
+    }
+}
+
+fn class_of(byte: u8) -> u64
+    ensures { λ r. ⌜ Alike byte r ⌝ }
+{
+    line(byte / 16) >> (byte % 16 * 4)
+}
+
+// Whether s[from..] is well-formed, where few bytes are left: to lay out a chart would cost more than it saves.
+fn few(s: &[u8], from: usize) -> bool
+    requires { ⌜ from ≤ length (now s) ⌝ }
+    ensures { λ r. ⌜ r ≡ wellFormed (drop from (now (s .entry))) ⌝ }
+{
+    let mut x = 0;
+    let mut i = from;
+    while i < s.len() {
+        x = step(x, class_of(s[i]));
+        i += 1;
+    }
+    x % 64 == 0
+}
+
+// Byte after byte as long as they are ASCII: for texts shorter than a word.
 fn short(s: &[u8]) -> bool
     ensures { λ r. ⌜ r ≡ wellFormed (now (s .entry)) ⌝ }
 {
     let mut i = 0;
     while i < s.len() {
         if 0x80 <= s[i] {
-            return rest(s, i);
+            return few(s, i);
         }
         i += 1;
     }
@@ -184,6 +238,7 @@ pub fn accepted(s: &[u8]) -> bool
         if plain(&s[last..]) {
             return true;
         }
+        return few(s, i);
     }
     rest(s, i)
 }

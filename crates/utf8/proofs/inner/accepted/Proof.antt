@@ -15,4 +15,5 @@ accepted-spec =
     tie.close
     (tie.spec (λ c κs. search needs) (λ c. search needs) (λ c κs. search needs) (λ c. search needs) (λ c. search needs)
     (λ c. search needs) (λ c. search needs) (λ c. search needs) (λ c κs. search needs) returns-2 (λ c κs. search needs)
+    (λ c. passed-text (c .before .before .before .before .before .past-ascii .ensures) (c .few .ensures)) (λ c κs. search needs)
     (λ c. passed-text (c .before .before .past-ascii .ensures) (c .rest .ensures)))

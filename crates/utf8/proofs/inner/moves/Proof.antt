@@ -1,5 +1,6 @@
 -- `utf8::inner::moves` meets its contract: at each class the packed states are what the table says, which antt computes.
 -- Assumes nothing.
+use native.Mathlib.Omega.{arith}
 use Rattle.paper.specs.Answer.{pick}
 use Rattle.utf8.specs.Table.{table}
 use Rattle.utf8.specs.WellFormed.{inside, begun, after}
@@ -29,4 +30,4 @@ moves-spec =
     (λ c. packs-at 13 (c .match .keys14) tt)
     (λ c. packs-at 14 (c .match .keys15) tt)
     (λ c. packs-at 15 (c .match .keys16) tt)
-    (λ c. beyond _ _ (c .match .rest)))
+    (λ c. beyond _ (omega arith) (c .match .rest)))

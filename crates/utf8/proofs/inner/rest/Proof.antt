@@ -20,7 +20,7 @@ abbrev μ-loop : tie.MeasureT-loop
 
 loop-holds : tie.Need-loop-holds Inv-loop μ-loop
 unfolding pick table inside begun after states every sameRange sameRow sameLeft sample alike
-loop-holds c = (reads-none _ _ starts, (search needs, record { bytes = refl; alikes = tt }))
+loop-holds c = (reads-none _ _ starts, (search needs, record { full = refl; letters = tt }))
 
 run-requires : tie.Need-run-requires Inv-loop μ-loop
 run-requires c κs = let v = c .before .before .loop .inv in (v .0 .state, v .1 .1, search needs, search needs)

@@ -13,6 +13,6 @@ short-spec =
     tie.close
     (tie.spec (λ s i₀ i. Passed s 0 i) (λ s i₀ i. length s - i)
     (λ c. passed-none _ _ (search needs)) (λ c. search needs) (λ c κs. search needs)
-    (λ c. passed-text (c .before .before .before .before .loop .inv) (c .rest .ensures)) (λ c. search needs) (λ c. search needs)
+    (λ c. passed-text (c .before .before .before .before .loop .inv) (c .few .ensures)) (λ c. search needs) (λ c. search needs)
     (λ c. passed-one (c .before .before .before .loop .inv) (search needs) (c .if1 .left))
     (λ c. passed-all (c .before .loop .inv) (c .loop-test .left)))
