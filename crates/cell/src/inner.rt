@@ -3,7 +3,6 @@ ghost use mathlib.Core.Path.{_≡_};
 ghost use Prim.Native.Nat.{_+_, _/_, _-_, _^_, _≤_, _<_};
 ghost use lib.ListN.{length};
 ghost use Rattle.paper.specs.Coded.{Coded};
-ghost use Rattle.utf8.specs.WellFormed.{wellFormed};
 ghost use Rattle.cell.specs.Block.{isNull, bitmapBytes};
 ghost use Rattle.cell.specs.Words.{fixedEnd, textEnd, vectorEnd, blockEnd, columnEnd, columnsEnd, bodyEnd, RowidAt, Frame, Locally};
 use paper::inner::refusal;
@@ -11,12 +10,6 @@ use varint::inner::wide;
 
 // Words from here on are refusals.
 pub const NO_PLACE: usize = 0x8000_0000_0000_0000;
-
-fn is_text(s: &[u8]) -> bool
-    ensures { λ r. ⌜ r ≡ wellFormed (now (s .entry)) ⌝ }
-{
-    s.len() == 7
-}
 
 // The end of a field of `size` bytes, or 7.
 fn fixed_end(body: &[u8], at: usize, size: usize) -> usize
@@ -46,7 +39,7 @@ fn text_end(body: &[u8], at: usize) -> usize
         return refusal(7);
     }
     let end = start + size;
-    if is_text(&body[start..end]) {
+    if utf8::inner::accepted(&body[start..end]) {
         return end;
     }
     refusal(8)

@@ -1,5 +1,5 @@
 // UTF-8. Unicode's Table 3-7 of well-formed byte sequences decides; it stands in specs/Table.antt.
-mod inner;
+pub mod inner;
 
 ghost use mathlib.Core.Path.{_≡_};
 ghost use Rattle.utf8.specs.Checked.{paper};
