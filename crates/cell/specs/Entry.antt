@@ -27,11 +27,14 @@ entry read s = andThen (framed s) (λ (n, len). andThen (read (bodyAt s n len)) 
 unfoldable pub peekKind : List ℕ → Answer ℕ
 peekKind s = andThen (readFrom s) (λ (len, n). pick (ltb n (length s)) (gives (getD s n 0)) (refuses 4))
 
+unfoldable pub rowidAt : List ℕ → ℕ → Answer ℤ
+rowidAt s at = andThen (readI64 s at) (λ (rowid, n). gives rowid)
+
 -- the rowid ignores the body length: the byte before it (4), then the varint (1, 2)
 unfoldable pub peekRowid : List ℕ → Answer ℤ
 peekRowid s =
     andThen (readFrom s)
-    (λ (len, n). pick (ltb n (length s)) (andThen (readI64 s (n + 1)) (λ (rowid, m). gives rowid)) (refuses 4))
+    (λ (len, n). pick (ltb n (length s)) (rowidAt s (n + 1)) (refuses 4))
 
 -- varint length plus body length; 3 if that passes 2 ^ 64 - 1
 unfoldable pub sizeAt : List ℕ → Answer ℕ

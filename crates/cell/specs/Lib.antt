@@ -5,3 +5,4 @@ pub mod Words
 pub mod Content
 pub mod ValueList
 pub mod Written
+pub mod Paper
