@@ -6,3 +6,4 @@ pub mod Laws
 pub mod Standard
 pub mod Zigzag
 pub mod Exact
+pub mod Places

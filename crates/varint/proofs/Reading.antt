@@ -105,7 +105,7 @@ module _ (s : List ℕ) (pos : ℕ) where
         rw take-rest (going-more (drop pos s) (going-start (drop pos s)) (omega arith) n m (rw (d, e) l))
 
   module _ {v n : ℕ} (e : Found (take (length s - pos) (drop pos s)) v n) where
-    scanned-at : scanned v n ≡ readU64 s pos
+    pub scanned-at : scanned v n ≡ readU64 s pos
     unfolding readU64
     scanned-at = rw take-rest at (e .same)
 

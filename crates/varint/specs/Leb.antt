@@ -27,6 +27,10 @@ readFrom s = andThen (taken 10 s) (λ bs. gives (sumFrom 0 bs % 2 ^ 64, length b
 unfoldable pub readU64 : List ℕ → ℕ → Answer (ℕ × ℕ)
 readU64 s pos = readFrom (drop pos s)
 
+-- the place behind the number at pos
+unfoldable pub endU64 : List ℕ → ℕ → Answer ℕ
+endU64 s pos = andThen (readU64 s pos) (λ (v, n). gives (pos + n))
+
 -- ---- writing
 
 -- v in the fewest groups of seven bits, lowest first, at most n of them; all but the last with the high bit set

@@ -5,7 +5,7 @@ use Prim.Native.Nat.{ℕ, _+_, _-_, _%_, _^_}
 use lib.Dec.{ltb, eqb}
 use lib.ListN.{length, drop}
 use Rattle.paper.specs.Answer.{Answer, gives, refuses, pick}
-use Rattle.varint.specs.Leb.{taken, sumFrom, readFrom}
+use Rattle.varint.specs.Leb.{taken, sumFrom, readFrom, readU64}
 
 -- the answer from byte i on, with the bytes before it added up to v
 unfoldable pub resume : ℕ → ℕ → Answer (List ℕ) → Answer (ℕ × ℕ)
@@ -23,3 +23,7 @@ scanned v n = pick (eqb n 0) (refuses 1) (pick (ltb 10 n) (refuses 2) (gives (v,
 -- at the end
 pub record Found (s : List ℕ) (v n : ℕ) : Type 0 where
   pub same : scanned v n ≡ readFrom s
+
+-- the same at a place of a buffer
+pub record FoundAt (s : List ℕ) (pos v n : ℕ) : Type 0 where
+  pub same : scanned v n ≡ readU64 s pos

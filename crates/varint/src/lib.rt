@@ -11,8 +11,9 @@ ghost use Rattle.paper.specs.Answer.{put, sizeOf};
 ghost use Rattle.varint.specs.Leb.{readU64, writeU64, lenU64};
 ghost use Rattle.varint.specs.Zigzag.{zigzag, unzigzag};
 ghost use Rattle.varint.specs.Number.{readI64, writeI64, lenI64};
-ghost use Rattle.varint.specs.Scan.{Going, Found};
 ghost use Rattle.varint.specs.Paper.{paperU64, paperI64, paperWrote};
+
+pub mod inner;
 
 // Upper bound on the bytes of a 64-bit number: seven bits a byte.
 pub const MAX_VARINT_BYTES: usize = 10;
@@ -45,12 +46,6 @@ pub enum ReadI64 {
 pub enum Wrote {
     Bytes(usize),
     Refused(u8),
-}
-
-fn wide(x: u8) -> u64
-    ensures { λ r. ⌜ r ≡ x ⌝ }
-{
-    x as u64
 }
 
 // A number of k + 1 bytes is below this; the table's one rule.
@@ -104,48 +99,6 @@ pub fn write_i64(out: &mut [u8], value: i64) -> Wrote
     write_u64(out, zigzag_encode(value))
 }
 
-// The sum so far with the low seven bits of byte `i`: what passes 64 bits is dropped.
-fn grown(value: u64, byte: u8, i: usize) -> u64
-    requires { ⌜ i < 10 ⌝ }
-    ensures { λ r. ⌜ r ≡ (value + byte % 128 * 2 ^ (7 * i)) % 2 ^ 64 ⌝ }
-{
-    std::num::wrapping_add_u64(value, (wide(byte) % 128) << (7 * i))
-}
-
-// The value and the bytes taken: none where the buffer ends sooner, eleven where one byte more is wanted.
-struct Scanned {
-    value: u64,
-    taken: usize,
-}
-
-// The number at the start of `s`, from byte `start` on: the bytes before it add up to `sum`. The start is a parameter, so that
-// the loop is laid out anew, and unrolled, in each caller: a slice and two words go through memory at a call.
-fn scan(s: &[u8], sum: u64, start: usize) -> Scanned
-    requires { ⌜ (start ≤ 10) × Going (now s) sum start ⌝ }
-    ensures { λ r. ⌜ Found (now (s .entry)) (r .value) (r .taken) ⌝ }
-{
-    let mut value = sum;
-    let mut i = start;
-    while i < MAX_VARINT_BYTES {
-        if s.len() <= i {
-            return Scanned { value: 0, taken: 0 };
-        }
-        let byte = s[i];
-        value = grown(value, byte, i);
-        if byte < 128 {
-            return Scanned {
-                value,
-                taken: i + 1,
-            };
-        }
-        i += 1;
-    }
-    Scanned {
-        value: 0,
-        taken: 11,
-    }
-}
-
 // Reads a number from `buf` at `pos`, which may be any number.
 pub fn read_u64(buf: &[u8], pos: usize) -> ReadU64
     ensures { λ r. ⌜ paperU64 r ≡ readU64 (now (buf .entry)) pos ⌝ }
@@ -153,7 +106,7 @@ pub fn read_u64(buf: &[u8], pos: usize) -> ReadU64
     if buf.len() <= pos {
         return ReadU64::Refused(1);
     }
-    let found = scan(&buf[pos..], 0, 0);
+    let found = inner::scan(&buf[pos..], 0, 0);
     if found.taken == 0 {
         return ReadU64::Refused(1);
     }
@@ -172,9 +125,9 @@ pub fn read_i64(buf: &[u8], pos: usize) -> ReadI64
     }
     let byte = buf[pos];
     if byte < 128 {
-        return ReadI64::Value(zigzag_decode(wide(byte)), 1);
+        return ReadI64::Value(zigzag_decode(inner::wide(byte)), 1);
     }
-    let found = scan(&buf[pos..], wide(byte) % 128, 1);
+    let found = inner::scan(&buf[pos..], inner::wide(byte) % 128, 1);
     if found.taken == 0 {
         return ReadI64::Refused(1);
     }

@@ -1,9 +1,9 @@
--- `varint::scan` meets its contract: at each turn, what is left, resumed from here, is the answer. Assumes nothing.
+-- `varint::inner::scan` meets its contract: at each turn, what is left, resumed from here, is the answer. Assumes nothing.
 use Prim.Native.Nat.{_-_}
 use Rattle.varint.specs.Scan.{Going}
 use Rattle.varint.proofs.Reading.{reading}
-use Rattle.varint.proofs.scan.Statement.{statement}
-use Rattle.varint.proofs.scan.Tie as tie
+use Rattle.varint.proofs.inner.scan.Statement.{statement}
+use Rattle.varint.proofs.inner.scan.Tie as tie
 
 pub scan-spec : {M : Type 1} → statement M
 scan-spec =

@@ -1,7 +1,7 @@
--- `varint::grown` meets its contract. Assumes nothing.
+-- `varint::inner::grown` meets its contract. Assumes nothing.
 use Rattle.varint.proofs.Reading.{reading}
-use Rattle.varint.proofs.grown.Statement.{statement}
-use Rattle.varint.proofs.grown.Tie as tie
+use Rattle.varint.proofs.inner.grown.Statement.{statement}
+use Rattle.varint.proofs.inner.grown.Tie as tie
 
 pub grown-spec : {M : Type 1} → statement M
 grown-spec =

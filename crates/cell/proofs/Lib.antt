@@ -1,0 +1,5 @@
+pub mod Blocks
+pub mod Columns
+pub mod Bodies
+pub mod Peeks
+pub mod Heads

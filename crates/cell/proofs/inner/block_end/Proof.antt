@@ -1,0 +1,25 @@
+-- `cell::inner::block_end` meets its contract. Assumes nothing.
+use Rattle.cell.proofs.Blocks.{ends}
+use Rattle.cell.proofs.inner.block_end.Statement.{statement}
+use Rattle.cell.proofs.inner.block_end.Tie as tie
+
+pub block-end-spec : {M : Type 1} → statement M
+block-end-spec =
+    tie.close
+    (tie.spec
+    (λ c κs. search ends)
+    (λ c. search ends)
+    (λ c. search ends)
+    (λ c. search ends)
+    (λ c κs. search ends)
+    (λ c κs. search ends)
+    (λ c κs. search ends)
+    (λ c κs. search ends)
+    (λ c κs. search ends)
+    (λ c κs. search ends)
+    (λ c. search ends)
+    (λ c. search ends)
+    (λ c. search ends)
+    (λ c. search ends)
+    (λ c. search ends)
+    (λ c. search ends))

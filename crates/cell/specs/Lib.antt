@@ -1,0 +1,8 @@
+pub mod Entry
+pub mod Block
+pub mod Local
+pub mod Words
+pub mod Content
+pub mod ValueList
+pub mod Written
+pub mod Paper

@@ -1,0 +1,102 @@
+// The scan that reads a number, and reading for loops in which most numbers are one byte. What asks something of its caller
+// stands here.
+ghost use mathlib.Core.Path.{_≡_};
+ghost use Prim.Native.Nat.{_+_, _*_, _%_, _^_, _<_, _≤_};
+ghost use lib.ListN.{length, getD};
+ghost use Rattle.paper.specs.Coded.{Coded};
+ghost use Rattle.varint.specs.Leb.{endU64};
+ghost use Rattle.varint.specs.Scan.{Going, Found, FoundAt};
+
+pub fn wide(x: u8) -> u64
+    ensures { λ r. ⌜ r ≡ x ⌝ }
+{
+    x as u64
+}
+
+// The sum so far with the low seven bits of byte `i`: what passes 64 bits is dropped.
+fn grown(value: u64, byte: u8, i: usize) -> u64
+    requires { ⌜ i < 10 ⌝ }
+    ensures { λ r. ⌜ r ≡ (value + byte % 128 * 2 ^ (7 * i)) % 2 ^ 64 ⌝ }
+{
+    std::num::wrapping_add_u64(value, (wide(byte) % 128) << (7 * i))
+}
+
+// The value and the bytes taken: none where the buffer ends sooner, eleven where one byte more is wanted.
+pub struct Scanned {
+    pub value: u64,
+    pub taken: usize,
+}
+
+// The number at the start of `s`, from byte `start` on: the bytes before it add up to `sum`. The start is a parameter, so that
+// the loop is laid out anew, and unrolled, in each caller: a slice and two words go through memory at a call.
+pub fn scan(s: &[u8], sum: u64, start: usize) -> Scanned
+    requires { ⌜ (start ≤ 10) × Going (now s) sum start ⌝ }
+    ensures { λ r. ⌜ Found (now (s .entry)) (r .value) (r .taken) ⌝ }
+{
+    let mut value = sum;
+    let mut i = start;
+    while i < 10 {
+        if s.len() <= i {
+            return Scanned { value: 0, taken: 0 };
+        }
+        let byte = s[i];
+        value = grown(value, byte, i);
+        if byte < 128 {
+            return Scanned {
+                value,
+                taken: i + 1,
+            };
+        }
+        i += 1;
+    }
+    Scanned {
+        value: 0,
+        taken: 11,
+    }
+}
+
+// The bytes after a first one with its high bit set, apart from the callers, so that one byte is read where it is wanted.
+fn apart(buf: &[u8], pos: usize, first: u8) -> Scanned
+    requires { ⌜ (pos < length (now buf)) × ((first ≡ getD (now buf) pos 0) × (128 ≤ first)) ⌝ }
+    ensures { λ r. ⌜ FoundAt (now (buf .entry)) pos (r .value) (r .taken) ⌝ }
+{
+    scan(&buf[pos..], wide(first) % 128, 1)
+}
+
+// The number at `pos` in two words, as `scan` answers it.
+pub fn value_at(buf: &[u8], pos: usize) -> Scanned
+    ensures { λ r. ⌜ FoundAt (now (buf .entry)) pos (r .value) (r .taken) ⌝ }
+{
+    if buf.len() <= pos {
+        return Scanned { value: 0, taken: 0 };
+    }
+    let byte = buf[pos];
+    if byte < 128 {
+        return Scanned {
+            value: wide(byte),
+            taken: 1,
+        };
+    }
+    apart(buf, pos, byte)
+}
+
+// The place behind the number at `pos`, or a refusal, in one word.
+pub fn end_at(buf: &[u8], pos: usize) -> usize
+    ensures { λ r. ⌜ Coded (endU64 (now (buf .entry)) pos) r ⌝ }
+{
+    if buf.len() <= pos {
+        return paper::inner::refusal(1);
+    }
+    let byte = buf[pos];
+    if byte < 128 {
+        return pos + 1;
+    }
+    let found = apart(buf, pos, byte);
+    if found.taken == 0 {
+        return paper::inner::refusal(1);
+    }
+    if 10 < found.taken {
+        return paper::inner::refusal(2);
+    }
+    pos + found.taken
+}
