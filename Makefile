@@ -12,7 +12,7 @@
 #   make record        write the originals' answers anew for crates/replay
 #   make bench         times as ratios (ROUNDS)
 
-PARTS = scripts listed layout prove $(if $(wildcard rust/Makefile),rust)
+PARTS = scripts listed layout prove rust
 
 .PHONY: test scripts listed layout prove rust differential record bench
 
