@@ -3,3 +3,4 @@ pub mod Columns
 pub mod Bodies
 pub mod Peeks
 pub mod Heads
+pub mod Keys

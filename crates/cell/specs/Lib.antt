@@ -2,6 +2,7 @@ pub mod Entry
 pub mod Block
 pub mod Local
 pub mod Words
+pub mod Keyed
 pub mod Content
 pub mod ValueList
 pub mod Written
