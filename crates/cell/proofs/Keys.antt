@@ -12,7 +12,6 @@ use mir.Val.{Fits}
 use borrow.Author.Needs.{needs}
 use borrow.Author.Tests.{lt-ltb, le-ltb, eq-eqb, ne-eqb}
 use Rattle.paper.specs.Answer.{Answer, gives, refuses, andThen, pick}
-use Rattle.paper.specs.Coded.{Coded}
 use Rattle.paper.proofs.Coding.{coded-place, coded-refusal}
 use Rattle.field.specs.Field.{le}
 use Rattle.field.proofs.Laws.{le-drop}
@@ -21,26 +20,33 @@ use Rattle.varint.specs.Scan.{FoundAt}
 use Rattle.varint.specs.Zigzag.{unzigzag}
 use Rattle.varint.proofs.Places.{at-short, at-long, at-value, at-inside, signed-gives, signed-refuses}
 use Rattle.cell.specs.Entry.{framed, entry}
-use Rattle.cell.specs.Keyed.{Keyed, keyedAt, pageAt}
+use Rattle.cell.specs.Keyed.{Keyed, PageWord, keyedAt, pageAt}
 use Rattle.cell.specs.Words.{Frame}
 
 -- ---- the page number
 module _ (body : List ℕ) (at : ℕ) where
-  pub page-cut : {r : ℕ} → length body - at < 4 → r ≡ 2 ^ 64 - 1 - 6 → Coded (pageAt body at) r
+  pub page-cut : {r : ℕ} → length body - at < 4 → r ≡ 2 ^ 64 - 1 - 6 → PageWord body at r
   unfolding pageAt pick
-  page-cut l e = coded-refusal {k = 6} (rw (lt-ltb (length body - at) 4 l)) (omega arith) e
+  page-cut l e = record { coded = coded-refusal {k = 6} (rw (lt-ltb (length body - at) 4 l)) (omega arith) e; small = λ h. absurd (omega (arith, h)) }
 
-  pub page-left : {r : ℕ} → 4 ≤ length body - at → (length body - at ≡ 4 → ⊥) → r ≡ 2 ^ 64 - 1 - 10 → Coded (pageAt body at) r
+  pub page-left : {r : ℕ} → 4 ≤ length body - at → (length body - at ≡ 4 → ⊥) → r ≡ 2 ^ 64 - 1 - 10 → PageWord body at r
   unfolding pageAt pick
-  page-left l n e = coded-refusal {k = 10} (rw (le-ltb (length body - at) 4 l, ne-eqb (length body - at) 4 n)) (omega arith) e
+  page-left l n e =
+      record {
+        coded = coded-refusal {k = 10} (rw (le-ltb (length body - at) 4 l, ne-eqb (length body - at) 4 n)) (omega arith) e;
+        small = λ h. absurd (omega (arith, h));
+      }
 
-  pub page-given : {p : ℕ} → length body - at ≡ 4 → p ≡ le 4 0 (take (length body - at) (drop at body)) → Fits w32 p → Coded (pageAt body at) p
+  pub page-given : {p : ℕ} → length body - at ≡ 4 → p ≡ le 4 0 (take (length body - at) (drop at body)) → Fits w32 p → PageWord body at p
   unfolding pageAt pick
   page-given {p} l e f =
       let d : p ≡ le 4 (at + 0) body = e ∙ ap (le 4 0) (take-all (length body - at) (drop at body) (le-of-eq (length-drop at body))) ∙ le-drop 4 0 at body in
       let g : p ≡ le 4 at body = rw (add-zero at) at d in
       let b : p < 2 ^ 32 = f .fits in
-      coded-place (rw (le-ltb (length body - at) 4 (omega arith), eq-eqb (length body - at) 4 l) (ap gives g)) (omega arith)
+      record {
+        coded = coded-place (rw (le-ltb (length body - at) 4 (omega arith), eq-eqb (length body - at) 4 l) (ap gives g)) (omega arith);
+        small = λ h. b;
+      }
 
 -- ---- the rowid
 module _ (kind : ℕ) (body : List ℕ) {a : ℕ} where

@@ -7,6 +7,7 @@ use lib.Dec.{ltb, eqb}
 use lib.IntN.{ℤ}
 use lib.ListN.{length, getD}
 use Rattle.paper.specs.Answer.{Answer, gives, refuses, andThen, pick}
+use Rattle.paper.specs.Coded.{Coded}
 use Rattle.field.specs.Field.{le, bytes}
 use Rattle.varint.specs.Leb.{lebBytes}
 use Rattle.varint.specs.Number.{readI64}
@@ -42,3 +43,8 @@ pub record Keyed (kind : ℕ) (body : List ℕ) (rowid at : ℕ) : Type 0 where
   pub top : 2 ^ 63 ≤ at → 2 ^ 64 - 256 ≤ at
   pub given : at < 2 ^ 63 → gives (unzigzag rowid, at) ≡ keyedAt kind body
   pub inside : at < 2 ^ 63 → at ≤ length body
+
+-- the word of a page number, which has 32 bits
+pub record PageWord (body : List ℕ) (at page : ℕ) : Type 0 where
+  pub coded : Coded (pageAt body at) page
+  pub small : page < 2 ^ 63 → page < 2 ^ 32

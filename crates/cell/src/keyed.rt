@@ -2,8 +2,7 @@
 ghost use mathlib.Core.Path.{_≡_};
 ghost use Prim.Native.Nat.{_-_, _^_, _≤_};
 ghost use lib.ListN.{length};
-ghost use Rattle.paper.specs.Coded.{Coded};
-ghost use Rattle.cell.specs.Keyed.{Keyed, pageAt};
+ghost use Rattle.cell.specs.Keyed.{Keyed, PageWord};
 use paper::inner::refusal;
 
 // The rowid as ZigZag has it, and the place behind it or a refusal.
@@ -47,7 +46,7 @@ pub fn key_of(body: &[u8], kind: u8) -> Key
 // The page number that ends the body, or a refusal, in one word.
 pub fn page_at(body: &[u8], at: usize) -> usize
     requires { ⌜ at ≤ length (now body) ⌝ }
-    ensures { λ r. ⌜ Coded (pageAt (now (body .entry)) at) r ⌝ }
+    ensures { λ r. ⌜ PageWord (now (body .entry)) at r ⌝ }
 {
     let left = body.len() - at;
     if left < 4 {

@@ -1,0 +1,2 @@
+pub mod References
+pub mod PagedEntries

@@ -1,0 +1,122 @@
+-- Reading an overflow reference: what the code's tests say of its definition.
+-- Assumes nothing.
+use mathlib.Core.Path.{_≡_, refl, sym, _∙_, ap}
+use mathlib.Core.List.{List}
+use Prim.Native.Nat.{ℕ, _+_, _-_, _^_, _≤_, _<_}
+use native.Mathlib.Nat.{le-of-eq}
+use native.Mathlib.Omega.{arith}
+use lib.IntN.{ℤ}
+use lib.ListN.{length, take, drop, length-drop, drop-of-length-le}
+use lib.Seq.{take-all}
+use mir.Syntax.{w32}
+use mir.Val.{Fits}
+use borrow.Author.Needs.{needs}
+use Rattle.paper.specs.Answer.{Answer, gives, refuses, andThen}
+use Rattle.paper.proofs.Coding.{is-place, is-refusal, is-number}
+use Rattle.varint.specs.Leb.{readU64, readFrom, taken}
+use Rattle.varint.specs.Scan.{FoundAt}
+use Rattle.varint.specs.Zigzag.{unzigzag}
+use Rattle.varint.proofs.Places.{at-short, at-long, at-value, at-inside}
+use Rattle.cell.specs.Entry.{framed, entry}
+use Rattle.cell.specs.Keyed.{Keyed, PageWord}
+use Rattle.cell.specs.Words.{Frame}
+use Rattle.cell.proofs.Heads.{frame-number, frame-starts, frame-ends}
+use Rattle.cell.proofs.Keys.{entry-unframed, entry-refused, entry-given}
+use Rattle.overflow.specs.Reference.{referenceBody, referenceFrom}
+use Rattle.overflow.specs.Words.{Refers}
+use Rattle.overflow.specs.Paper.{paperRef}
+use Rattle.overflow.specs.declared.OverflowRef.{OverflowRef}
+use Rattle.overflow.specs.declared.DecodedRef.the-variants as D
+
+-- ---- the body
+module _ (body : List ℕ) where
+  refers-not : {a b page : ℕ} (k : ℕ) → refuses k ≡ referenceBody body → k < 256 → page ≡ 2 ^ 64 - 1 - k → Refers body a b page
+  refers-not {a} {b} {page} k g l d =
+      let e : 2 ^ 64 - 1 - page ≡ k = omega arith in
+      record {
+        refused = λ h. rw e g;
+        top = λ h. omega arith;
+        given = λ h. absurd (omega (arith, h));
+        small = λ h. absurd (omega (arith, h));
+      }
+
+  module _ {rowid at : ℕ} (w : Keyed 2 body rowid at) where
+    pub reference-unkeyed : {a b page : ℕ} → 2 ^ 63 ≤ at → at < 2 ^ 64 → page ≡ at → Refers body a b page
+    unfolding referenceBody andThen
+    reference-unkeyed l f d =
+        let t = w .top l in
+        refers-not (2 ^ 64 - 1 - at) (rw (← w .refused l)) (omega arith) (omega arith)
+
+    module _ (l : at < 2 ^ 63) where
+      pub key-inside : at ≤ length body
+      key-inside = w .inside l
+
+      module _ {v n : ℕ} (f : FoundAt body at v n) where
+        pub total-short : {a b k page : ℕ} → n ≡ 0 → k ≡ 2 ^ 64 - 1 - 1 → page ≡ k → Refers body a b page
+        unfolding referenceBody andThen
+        total-short z d e = refers-not 1 (rw (← w .given l, ← at-short body at f z)) (omega arith) (e ∙ d)
+
+        pub total-long : {a b k page : ℕ} → 10 < n → k ≡ 2 ^ 64 - 1 - 2 → page ≡ k → Refers body a b page
+        unfolding referenceBody andThen
+        total-long h d e = refers-not 2 (rw (← w .given l, ← at-long body at f h)) (omega arith) (e ∙ d)
+
+        pub total-given : (n ≡ 0 → ⊥) → n ≤ 10 → {page : ℕ} → PageWord body (at + n) page → Refers body rowid v page
+        unfolding referenceBody andThen
+        total-given z m {page} k =
+            record {
+              refused = λ h. rw (← w .given l, ← at-value body at f z m, ← is-refusal (k .coded) h refl);
+              top = λ h. is-number (k .coded) h;
+              given = λ h. rw (← w .given l, ← at-value body at f z m, ← is-place (k .coded) h);
+              small = λ h. k .small h;
+            }
+
+pub refers-fits : {body : List ℕ} {rowid total page : ℕ} → Refers body rowid total page → page < 2 ^ 63 → Fits w32 page
+refers-fits r h = record { fits = r .small h }
+
+pub refers-number : {body : List ℕ} {rowid total page : ℕ} → Refers body rowid total page → 2 ^ 63 ≤ page → 2 ^ 64 - 256 ≤ page
+refers-number r h = r .top h
+
+-- ---- the entry
+module _ (s : List ℕ) {at end : ℕ} (f : Frame s at end) where
+  pub reference-unframed : {k : ℕ} → 2 ^ 63 ≤ end → k ≡ 2 ^ 64 - 1 - end → paperRef (D.Refused k) ≡ referenceFrom s
+  unfolding paperRef referenceFrom
+  reference-unframed l e = entry-unframed referenceBody s f l e
+
+  module _ (l : end < 2 ^ 63) {rowid total page : ℕ} (r : Refers (take (end - at) (drop at s)) rowid total page) where
+    pub reference-refused : {k : ℕ} → 2 ^ 63 ≤ page → k ≡ 2 ^ 64 - 1 - page → paperRef (D.Refused k) ≡ referenceFrom s
+    unfolding paperRef referenceFrom
+    reference-refused h d = entry-refused referenceBody s f l (rw d (r .refused h))
+
+    pub reference-given : {z : ℤ} → page < 2 ^ 63 → z ≡ unzigzag rowid
+        → paperRef (D.Reference (record { rowid = z; «total_body_len» = total; «first_overflow_page» = page }) end) ≡ referenceFrom s
+    unfolding paperRef referenceFrom
+    reference-given h d = rw d (entry-given referenceBody s f l (r .given h))
+
+-- ---- at a place
+module _ (s : List ℕ) (pos : ℕ) where
+  pub reference-past : length s ≤ pos → paperRef (D.Refused 1) ≡ referenceFrom (drop pos s)
+  unfolding paperRef referenceFrom entry framed andThen readFrom taken
+  reference-past l = rw (drop-of-length-le s l)
+
+  pub reference-at : {a : Answer ((ℤ × ℕ × ℕ) × ℕ)} → a ≡ referenceFrom (take (length s - pos) (drop pos s)) → a ≡ referenceFrom (drop pos s)
+  reference-at e = rw (take-all (length s - pos) (drop pos s) (le-of-eq (length-drop pos s))) at e
+
+pub ruleset references = (
+  needs,
+  at-inside,
+  reference-unkeyed,
+  key-inside,
+  total-short,
+  total-long,
+  total-given,
+  frame-number,
+  frame-starts,
+  frame-ends,
+  reference-unframed,
+  refers-number,
+  refers-fits,
+  reference-refused,
+  reference-given,
+  reference-past,
+  reference-at,
+)

@@ -1,0 +1,4 @@
+pub mod Reference
+pub mod Paged
+pub mod Paper
+pub mod Words

@@ -1,0 +1,14 @@
+-- What the reader's steps say to each other. No public promise names these.
+use mathlib.Core.Path.{_≡_}
+use mathlib.Core.List.{List}
+use Prim.Native.Nat.{ℕ, _-_, _^_, _≤_, _<_}
+use Rattle.paper.specs.Answer.{gives, refuses}
+use Rattle.varint.specs.Zigzag.{unzigzag}
+use Rattle.overflow.specs.Reference.{referenceBody}
+
+-- a reference's rowid as ZigZag has it, its total, and the word of its first page
+pub record Refers (body : List ℕ) (rowid total page : ℕ) : Type 0 where
+  pub refused : 2 ^ 63 ≤ page → refuses (2 ^ 64 - 1 - page) ≡ referenceBody body
+  pub top : 2 ^ 63 ≤ page → 2 ^ 64 - 256 ≤ page
+  pub given : page < 2 ^ 63 → gives (unzigzag rowid, total, page) ≡ referenceBody body
+  pub small : page < 2 ^ 63 → page < 2 ^ 32

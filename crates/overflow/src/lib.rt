@@ -1,0 +1,151 @@
+// Overflow: the first half of overflow.rs. The reference that stands on a page for a row kept in a chain, and the paged entry,
+// which is a local cell or such a reference.
+ghost use mathlib.Core.Path.{_≡_};
+ghost use Prim.Native.Nat.{_-_, _^_};
+ghost use lib.ListN.{length, drop};
+ghost use Rattle.paper.specs.Answer.{put, sizeOf};
+ghost use Rattle.varint.specs.Paper.{paperWrote};
+ghost use Rattle.overflow.specs.Reference.{referenceFrom, writeReference};
+ghost use Rattle.overflow.specs.Paged.{pagedFrom, localPaged, referencePaged};
+ghost use Rattle.overflow.specs.Paper.{paperRef, paperPaged};
+ghost use Rattle.overflow.specs.Words.{Refers};
+use cell::Decoded;
+use cell::Head;
+use cell::PeekedKind;
+use cell::inner::NO_PLACE;
+use paper::inner::number;
+use paper::inner::refusal;
+
+// The marker that stands in for a cell whose body lives in an overflow chain.
+pub struct OverflowRef {
+    pub rowid: i64,
+    // The bytes that the chain holds.
+    pub total_body_len: u64,
+    // The first page of the chain.
+    pub first_overflow_page: u32,
+}
+
+pub enum DecodedRef {
+    // The reference, and the bytes it takes.
+    Reference(OverflowRef, usize),
+    Refused(u8),
+}
+
+// A reference in words: the rowid as ZigZag has it, the total, and the first page or a refusal.
+struct RefWords {
+    rowid: u64,
+    total: u64,
+    page: usize,
+}
+
+fn no_reference(word: usize) -> RefWords
+    ensures { λ r. ⌜ r .page ≡ word ⌝ }
+{
+    RefWords {
+        rowid: 0,
+        total: 0,
+        page: word,
+    }
+}
+
+fn reference_body(body: &[u8]) -> RefWords
+    ensures { λ r. ⌜ Refers (now (body .entry)) (r .rowid) (r .total) (r .page) ⌝ }
+{
+    let key = cell::keyed::key_of(body, cell::KIND_OVERFLOW);
+    let at = key.at;
+    if NO_PLACE <= at {
+        return no_reference(at);
+    }
+    let total = varint::inner::value_at(body, at);
+    if total.taken == 0 {
+        return no_reference(refusal(1));
+    }
+    if 10 < total.taken {
+        return no_reference(refusal(2));
+    }
+    let page = cell::keyed::page_at(body, at + total.taken);
+    RefWords {
+        rowid: key.rowid,
+        total: total.value,
+        page,
+    }
+}
+
+fn decode_from(s: &[u8]) -> DecodedRef
+    ensures { λ r. ⌜ paperRef r ≡ referenceFrom (now (s .entry)) ⌝ }
+{
+    let framed = cell::inner::frame(s);
+    let at = framed.at;
+    let end = framed.end;
+    if NO_PLACE <= end {
+        return DecodedRef::Refused(number(end));
+    }
+    let words = reference_body(&s[at..end]);
+    if NO_PLACE <= words.page {
+        return DecodedRef::Refused(number(words.page));
+    }
+    DecodedRef::Reference(
+        OverflowRef {
+            rowid: varint::zigzag_decode(words.rowid),
+            total_body_len: words.total,
+            first_overflow_page: words.page as u32,
+        },
+        end,
+    )
+}
+
+// Reads the overflow reference at `pos`.
+pub fn decode(buf: &[u8], pos: usize) -> DecodedRef
+    ensures { λ r. ⌜ paperRef r ≡ referenceFrom (drop pos (now (buf .entry))) ⌝ }
+{
+    if buf.len() <= pos {
+        return DecodedRef::Refused(1);
+    }
+    decode_from(&buf[pos..])
+}
+
+// An entry of a leaf page, and the bytes it takes.
+pub enum PagedEntry {
+    Local(Head),
+    Overflow(OverflowRef, usize),
+    Refused(u8),
+}
+
+fn as_local(buf: &[u8], pos: usize) -> PagedEntry
+    ensures { λ r. ⌜ paperPaged r ≡ localPaged (drop pos (now (buf .entry))) ⌝ }
+{
+    let cell = cell::decode(buf, pos);
+    match cell {
+        Decoded::Head(head) => PagedEntry::Local(head),
+        Decoded::Refused(k) => PagedEntry::Refused(k),
+    }
+}
+
+fn as_reference(buf: &[u8], pos: usize) -> PagedEntry
+    ensures { λ r. ⌜ paperPaged r ≡ referencePaged (drop pos (now (buf .entry))) ⌝ }
+{
+    let reference = decode(buf, pos);
+    match reference {
+        DecodedRef::Reference(r, bytes) => PagedEntry::Overflow(r, bytes),
+        DecodedRef::Refused(k) => PagedEntry::Refused(k),
+    }
+}
+
+// Reads the entry at `pos` by its kind.
+pub fn decode_paged(buf: &[u8], pos: usize) -> PagedEntry
+    ensures { λ r. ⌜ paperPaged r ≡ pagedFrom (drop pos (now (buf .entry))) ⌝ }
+{
+    let peeked = cell::peek_kind(buf, pos);
+    match peeked {
+        PeekedKind::Kind(kind) => {
+            if kind == 1 {
+                return as_local(buf, pos);
+            }
+            if kind == 2 {
+                return as_reference(buf, pos);
+            }
+            PagedEntry::Refused(5)
+        }
+        PeekedKind::Refused(k) => PagedEntry::Refused(k),
+    }
+}
