@@ -75,15 +75,15 @@ module _ {out₀ out : List ℕ} {value v i : ℕ} (w : Filling out₀ value out
       let e : 10 - i ≡ suc (9 - i) = omega (arith, w .below) in
       rw (e, groups-last (9 - i) v h) at (w .count)
 
-  pub filling-done : v < 128 → set out i v ≡ put out₀ (writeU64 value (length out₀))
-  unfolding put over writeU64 pick lenU64
+  pub filling-done : v < 128 → set out i v ≡ over out₀ (lebBytes value)
+  unfolding over lenU64
   filling-done h =
       let e : 10 - i ≡ suc (9 - i) = omega (arith, w .below) in
       let r : lenU64 value ≤ length out₀ = w .room in
       let f : set out i v ≡ sets out₀ 0 (lebBytes value) = rw (e, groups-last (9 - i) v h) at (w .same) in
       let z : 0 + length (lebBytes value) ≡ length (lebBytes value) = zero-add (length (lebBytes value)) in
       let l : 0 + length (lebBytes value) ≤ length out₀ = omega arith in
-      rw (le-ltb (length out₀) (length (lebBytes value)) r) (f ∙ sets-eq (lebBytes value) out₀ 0 l ∙ ap (λ (n : ℕ). lebBytes value ++ drop n out₀) z)
+      f ∙ sets-eq (lebBytes value) out₀ 0 l ∙ ap (λ (n : ℕ). lebBytes value ++ drop n out₀) z
 
 -- ---- the call, by the length that the code asked for
 module _ (value room : ℕ) {l : ℕ} (e : l ≡ lenU64 value) where
@@ -97,6 +97,10 @@ module _ (value room : ℕ) {l : ℕ} (e : l ≡ lenU64 value) where
 
   pub has-room : l ≤ room → lenU64 value ≤ room
   has-room h = rw e at h
+
+  pub accepted-output : l ≤ room → (out : List ℕ) {new : List ℕ} → new ≡ over out (lebBytes value) → new ≡ put out (writeU64 value room)
+  unfolding put writeU64 pick
+  accepted-output h out d = rw (le-ltb room (lenU64 value) (has-room h)) d
 
   pub accepted-size : {n : ℕ} → n ≡ lenU64 value → l ≤ room → paperWrote (W.Bytes n) ≡ sizeOf (writeU64 value room)
   unfolding paperWrote sizeOf writeU64 pick lenU64
@@ -126,7 +130,7 @@ module _ (value : ℕ) (h : value < 128) where
     byte-size = accepted-size value (length out) refl (sym (ap length one-byte)) byte-room
 
     pub byte-output : set out 0 value ≡ put out (writeU64 value (length out))
-    byte-output = filling-done (filling-start (omega arith) byte-room) h
+    byte-output = accepted-output value (length out) refl byte-room out (filling-done (filling-start (omega arith) byte-room) h)
 
 pub ruleset writing = (
   needs,
@@ -138,6 +142,7 @@ pub ruleset writing = (
   refused-size,
   refused-output,
   has-room,
+  accepted-output,
   accepted-size,
   byte-refused-size,
   byte-refused-output,

@@ -3,8 +3,9 @@
 ghost use mathlib.Core.Path.{_≡_};
 ghost use Prim.Native.Nat.{_+_, _*_, _%_, _^_, _<_, _≤_};
 ghost use lib.ListN.{length, getD};
+ghost use Rattle.paper.specs.Answer.{over};
 ghost use Rattle.paper.specs.Coded.{Coded};
-ghost use Rattle.varint.specs.Leb.{endU64};
+ghost use Rattle.varint.specs.Leb.{endU64, lenU64, lebBytes};
 ghost use Rattle.varint.specs.Scan.{Going, Found, FoundAt};
 
 pub fn wide(x: u8) -> u64
@@ -99,4 +100,21 @@ pub fn end_at(buf: &[u8], pos: usize) -> usize
         return paper::inner::refusal(2);
     }
     pos + found.taken
+}
+
+// Writes the bytes of `value` from the start of `out`, which has room.
+pub fn put_u64(out: &mut [u8], value: u64) -> usize
+    requires { ⌜ lenU64 value ≤ length (now out) ⌝ }
+    ensures { λ r. ⌜ r ≡ lenU64 value ⌝ }
+    ensures { λ _. ⌜ now (out .exit) ≡ over (now (out .entry)) (lebBytes value) ⌝ }
+{
+    let mut v = value;
+    let mut i: usize = 0;
+    while 128 <= v {
+        out[i] = (128 + v % 128) as u8;
+        v = v / 128;
+        i += 1;
+    }
+    out[i] = v as u8;
+    i + 1
 }

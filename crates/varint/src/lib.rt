@@ -56,23 +56,6 @@ fn limit(k: usize) -> u64
     LIMITS[k]
 }
 
-// Writes the bytes of `value` from the start of `out`, which has room.
-fn write_groups(out: &mut [u8], value: u64) -> usize
-    requires { ⌜ lenU64 value ≤ length (now out) ⌝ }
-    ensures { λ r. ⌜ r ≡ lenU64 value ⌝ }
-    ensures { λ _. ⌜ now (out .exit) ≡ put (now (out .entry)) (writeU64 value (length (now (out .entry)))) ⌝ }
-{
-    let mut v = value;
-    let mut i: usize = 0;
-    while 128 <= v {
-        out[i] = (128 + v % 128) as u8;
-        v = v / 128;
-        i += 1;
-    }
-    out[i] = v as u8;
-    i + 1
-}
-
 // Writes `value` in the fewest bytes; one byte is the common case. An output that is too short is refused and keeps every byte.
 pub fn write_u64(out: &mut [u8], value: u64) -> Wrote
     ensures { λ r. ⌜ paperWrote r ≡ sizeOf (writeU64 value (length (now (out .entry)))) ⌝ }
@@ -88,7 +71,7 @@ pub fn write_u64(out: &mut [u8], value: u64) -> Wrote
     if out.len() < u64_len(value) {
         return Wrote::Refused(16);
     }
-    Wrote::Bytes(write_groups(out, value))
+    Wrote::Bytes(inner::put_u64(out, value))
 }
 
 // Writes `value` by ZigZag and LEB128.
