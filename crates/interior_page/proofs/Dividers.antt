@@ -1,0 +1,101 @@
+-- Reading an interior cell: what the code's tests say of its definition.
+-- Assumes nothing.
+use mathlib.Core.Path.{_≡_, refl, sym, _∙_, ap}
+use mathlib.Core.List.{List}
+use Prim.Native.Nat.{ℕ, _-_, _^_, _≤_, _<_}
+use native.Mathlib.Nat.{le-of-eq}
+use native.Mathlib.Omega.{arith}
+use lib.IntN.{ℤ}
+use lib.ListN.{length, take, drop, length-drop, drop-of-length-le}
+use lib.Seq.{take-all}
+use mir.Syntax.{w32}
+use mir.Val.{Fits}
+use borrow.Author.Needs.{needs}
+use Rattle.paper.specs.Answer.{Answer, gives, refuses, andThen}
+use Rattle.paper.proofs.Coding.{is-place, is-refusal, is-number}
+use Rattle.varint.specs.Leb.{readFrom, taken}
+use Rattle.varint.specs.Zigzag.{unzigzag}
+use Rattle.cell.specs.Entry.{framed, entry}
+use Rattle.cell.specs.Keyed.{Keyed, PageWord}
+use Rattle.cell.specs.Words.{Frame}
+use Rattle.cell.proofs.Heads.{frame-number, frame-starts, frame-ends}
+use Rattle.cell.proofs.Keys.{entry-unframed, entry-refused, entry-given}
+use Rattle.interior_page.specs.InteriorCells.{interiorBody, interiorFrom}
+use Rattle.interior_page.specs.Words.{Divides}
+use Rattle.interior_page.specs.Paper.{paperInterior}
+use Rattle.interior_page.specs.declared.InteriorCell.{InteriorCell}
+use Rattle.interior_page.specs.declared.DecodedInterior.the-variants as D
+
+-- ---- the body
+module _ (body : List ℕ) {rowid at : ℕ} (w : Keyed 3 body rowid at) where
+  pub divider-unkeyed : {a : ℕ} → 2 ^ 63 ≤ at → Divides body a at
+  unfolding interiorBody andThen
+  divider-unkeyed l =
+      record {
+        refused = λ h. rw (← w .refused l);
+        top = λ h. w .top l;
+        given = λ h. absurd (omega (arith, h));
+        small = λ h. absurd (omega (arith, h));
+      }
+
+  module _ (l : at < 2 ^ 63) where
+    pub key-inside : at ≤ length body
+    key-inside = w .inside l
+
+    pub divider-given : {child : ℕ} → PageWord body at child → Divides body rowid child
+    unfolding interiorBody andThen
+    divider-given k =
+        record {
+          refused = λ h. rw (← w .given l, ← is-refusal (k .coded) h refl);
+          top = λ h. is-number (k .coded) h;
+          given = λ h. rw (← w .given l, ← is-place (k .coded) h);
+          small = λ h. k .small h;
+        }
+
+pub divides-fits : {body : List ℕ} {divider child : ℕ} → Divides body divider child → child < 2 ^ 63 → Fits w32 child
+divides-fits r h = record { fits = r .small h }
+
+pub divides-number : {body : List ℕ} {divider child : ℕ} → Divides body divider child → 2 ^ 63 ≤ child → 2 ^ 64 - 256 ≤ child
+divides-number r h = r .top h
+
+-- ---- the entry
+module _ (s : List ℕ) {at end : ℕ} (f : Frame s at end) where
+  pub interior-unframed : {k : ℕ} → 2 ^ 63 ≤ end → k ≡ 2 ^ 64 - 1 - end → paperInterior (D.Refused k) ≡ interiorFrom s
+  unfolding paperInterior interiorFrom
+  interior-unframed l e = entry-unframed interiorBody s f l e
+
+  module _ (l : end < 2 ^ 63) {divider child : ℕ} (r : Divides (take (end - at) (drop at s)) divider child) where
+    pub interior-refused : {k : ℕ} → 2 ^ 63 ≤ child → k ≡ 2 ^ 64 - 1 - child → paperInterior (D.Refused k) ≡ interiorFrom s
+    unfolding paperInterior interiorFrom
+    interior-refused h d = entry-refused interiorBody s f l (rw d (r .refused h))
+
+    pub interior-given : {z : ℤ} → child < 2 ^ 63 → z ≡ unzigzag divider
+        → paperInterior (D.Cell (record { «divider_rowid» = z; «child_page» = child }) end) ≡ interiorFrom s
+    unfolding paperInterior interiorFrom
+    interior-given h d = rw d (entry-given interiorBody s f l (r .given h))
+
+-- ---- at a place
+module _ (s : List ℕ) (pos : ℕ) where
+  pub interior-past : length s ≤ pos → paperInterior (D.Refused 1) ≡ interiorFrom (drop pos s)
+  unfolding paperInterior interiorFrom entry framed andThen readFrom taken
+  interior-past l = rw (drop-of-length-le s l)
+
+  pub interior-at : {a : Answer ((ℤ × ℕ) × ℕ)} → a ≡ interiorFrom (take (length s - pos) (drop pos s)) → a ≡ interiorFrom (drop pos s)
+  interior-at e = rw (take-all (length s - pos) (drop pos s) (le-of-eq (length-drop pos s))) at e
+
+pub ruleset dividers = (
+  needs,
+  divider-unkeyed,
+  key-inside,
+  divider-given,
+  divides-fits,
+  divides-number,
+  frame-number,
+  frame-starts,
+  frame-ends,
+  interior-unframed,
+  interior-refused,
+  interior-given,
+  interior-past,
+  interior-at,
+)

@@ -1,0 +1,3 @@
+pub mod InteriorCells
+pub mod Paper
+pub mod Words

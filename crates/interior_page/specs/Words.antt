@@ -1,0 +1,14 @@
+-- What the reader's steps say to each other. No public promise names this.
+use mathlib.Core.Path.{_≡_}
+use mathlib.Core.List.{List}
+use Prim.Native.Nat.{ℕ, _-_, _^_, _≤_, _<_}
+use Rattle.paper.specs.Answer.{gives, refuses}
+use Rattle.varint.specs.Zigzag.{unzigzag}
+use Rattle.interior_page.specs.InteriorCells.{interiorBody}
+
+-- a divider as ZigZag has it, and the word of its child page
+pub record Divides (body : List ℕ) (divider child : ℕ) : Type 0 where
+  pub refused : 2 ^ 63 ≤ child → refuses (2 ^ 64 - 1 - child) ≡ interiorBody body
+  pub top : 2 ^ 63 ≤ child → 2 ^ 64 - 256 ≤ child
+  pub given : child < 2 ^ 63 → gives (unzigzag divider, child) ≡ interiorBody body
+  pub small : child < 2 ^ 63 → child < 2 ^ 32
