@@ -1,0 +1,11 @@
+-- `cell::value::column_block` meets its contract. Assumes nothing.
+use Rattle.cell.proofs.Values.{values}
+use Rattle.cell.proofs.value.column_block.Statement.{statement}
+use Rattle.cell.proofs.value.column_block.Tie as tie
+
+pub column-block-spec : {M : Type 1} → statement M
+column-block-spec =
+    tie.close
+    (tie.spec
+    (λ c κs. search values) (λ c. search values) (λ c κs. search values) (λ c. search values) (λ c κs. search values)
+    (λ c κs. search values) (λ c. search values))
