@@ -180,6 +180,9 @@ module _ (body : List ℕ) (at shift : ℕ) (b : BlockAt body at) where
   paper-is : {x y : Block} → y ≡ moved shift x → x ≡ b .value → y ≡ moved shift (blockAt body at)
   paper-is p d = rw (← block-is body at (b .read), ← d) p
 
+  pub next-fits : shift + length body < 2 ^ 63 → Fits w64 (at + 1)
+  next-fits l = let h = block-here body at b in record { fits = omega arith }
+
   pub integer-value : {v n : ℕ} {z : ℤ} → getD body at 0 ≡ 0 → FoundAt body (at + 1) v n → z ≡ unzigzag v
       → paperValue (W.Integer z) ≡ moved shift (blockAt body at)
   unfolding paperValue moved
@@ -423,6 +426,7 @@ pub ruleset values = (
   plain-pattern,
   nan-pattern,
   block-here,
+  next-fits,
   integer-value,
   real-start,
   real-inside,
