@@ -2,7 +2,7 @@
 -- Assumes nothing.
 use mathlib.Core.Path.{_≡_, refl, sym, _∙_, ap}
 use mathlib.Core.Bool.{Bool, true, false, not}
-use mathlib.Core.List.{List, [], _∷_}
+use mathlib.Core.List.{List, _∷_}
 use Prim.Native.Nat.{ℕ, zero, suc, _+_, _-_, _*_, _/_, _%_, _^_, _≤_, _<_}
 use native.Mathlib.Nat.{zero-add, add-zero, le-of-eq}
 use native.Mathlib.Omega.{arith}
@@ -30,8 +30,8 @@ use Rattle.varint.proofs.Places.{found-past, at-short, at-long, at-value, at-in
 use Rattle.utf8.specs.WellFormed.{checkAt}
 use Rattle.cell.specs.Entry.{framed}
 use Rattle.cell.specs.Block.{Block, null, integer, real, bool, text, vector, block, blockOf, columns, isNull, bitmapBytes}
-use Rattle.cell.specs.Local.{localBody, moved, nth, valueFrom, valueAt}
-use Rattle.cell.specs.Words.{columnEnd, columnsEnd, Locally, Stands, Frame}
+use Rattle.cell.specs.Local.{moved, nth, valueFrom, valueAt}
+use Rattle.cell.specs.Words.{columnEnd, columnsEnd, Locally, Frame}
 use Rattle.cell.specs.ByColumn.{readOr, blockAt, columnAt, bodyValue, BlockAt, ColumnOf}
 use Rattle.cell.specs.PaperValue.{paperValue, paperAsked}
 use Rattle.cell.specs.declared.value.Value.{Value}
@@ -59,7 +59,8 @@ module _ (n : ℕ) where
   pub plain-pattern : n % 2 ^ 63 ≤ 0x7FF0000000000000 → T (not (nanBits binary64 n))
   plain-pattern l = rw (above, le-ltb 0x7FF0000000000000 (n % 2 ^ 63) l) tt
 
-  pub nan-pattern : 0x7FF0000000000000 < n % 2 ^ 63 → W.Real (div binary64 (ofBits binary64 0) (ofBits binary64 0)) n ≡ W.Real (ofBits binary64 n) n
+  pub nan-pattern : 0x7FF0000000000000 < n % 2 ^ 63
+      → W.Real (div binary64 (ofBits binary64 0) (ofBits binary64 0)) n ≡ W.Real (ofBits binary64 n) n
   nan-pattern l =
       let t : T (isNan (ofBits binary64 n)) = rw (← nanBits-is binary64 n, above, lt-ltb 0x7FF0000000000000 (n % 2 ^ 63) l) tt in
       ap (λ (f : Float). W.Real f n) (divided ∙ sym (only-nan (ofBits binary64 n) t))
@@ -109,10 +110,12 @@ module _ (body : List ℕ) (at : ℕ) (b : BlockAt body at) where
   integer-is : {v n : ℕ} → getD body at 0 ≡ 0 → FoundAt body (at + 1) v n → integer (unzigzag v) ≡ b .value
   unfolding blockOf pick readI64 andThen
   integer-is {v} {n} e f =
-      let (g, i) = accepted body (at + 1) (λ (u, m). gives (integer (unzigzag u), at + 1 + m)) f (tag-is e ∙ joined (readU64 body (at + 1))) in
+      let (g, i) =
+      accepted body (at + 1) (λ (u, m). gives (integer (unzigzag u), at + 1 + m)) f (tag-is e ∙ joined (readU64 body (at + 1))) in
       sym (ap first (gives-one g))
     where
-      joined : (a : Answer (ℕ × ℕ)) → andThen {B = Block × ℕ} (andThen {B = ℤ × ℕ} a (λ (u, m). gives (unzigzag u, m))) (λ (z, m). gives (integer z, at + 1 + m))
+      joined : (a : Answer (ℕ × ℕ)) →
+          andThen {B = Block × ℕ} (andThen {B = ℤ × ℕ} a (λ (u, m). gives (unzigzag u, m))) (λ (z, m). gives (integer z, at + 1 + m))
           ≡ andThen a (λ (u, m). gives (integer (unzigzag u), at + 1 + m))
       joined (gives p) = refl
       joined (refuses k) = refl
@@ -123,7 +126,8 @@ module _ (body : List ℕ) (at : ℕ) (b : BlockAt body at) where
     real-room = by (ltb (length body - (at + 1)) 8) refl (tag-is e)
       where
         by : (t : Bool) → ltb (length body - (at + 1)) 8 ≡ t
-            → Gives b (pick t (refuses 7) (gives (real (ofBits binary64 (le 8 (at + 1) body)) (le 8 (at + 1) body), at + 1 + 8))) → 8 ≤ length body - (at + 1)
+            → Gives b (pick t (refuses 7) (gives (real (ofBits binary64 (le 8 (at + 1) body)) (le 8 (at + 1) body), at + 1 + 8)))
+            → 8 ≤ length body - (at + 1)
         by true t g = absurd (gives-refuses g)
         by false t g = ltb-false (length body - (at + 1)) 8 t
 
@@ -139,7 +143,8 @@ module _ (body : List ℕ) (at : ℕ) (b : BlockAt body at) where
         (λ (len, m). andThen (checkAt body (at + 1 + m) len) (λ _. gives (text (at + 1 + m) len, at + 1 + m + len))) f (tag-is e) in
         (by (checkAt body (at + 1 + n) v) g, i)
       where
-        by : {U : Type 0} (a : Answer U) → Gives b (andThen a (λ _. gives (text (at + 1 + n) v, at + 1 + n + v))) → text (at + 1 + n) v ≡ b .value
+        by : {U : Type 0} (a : Answer U) → Gives b (andThen a (λ _. gives (text (at + 1 + n) v, at + 1 + n + v)))
+            → text (at + 1 + n) v ≡ b .value
         by (gives u) g = sym (ap first (gives-one g))
         by (refuses k) g = absurd (gives-refuses g)
 
@@ -164,9 +169,11 @@ module _ (body : List ℕ) (at : ℕ) (b : BlockAt body at) where
         by (eqb t 4) (rw (ne-eqb t 0 n0, ne-eqb t 1 n1, ne-eqb t 2 n2, ne-eqb t 3 n3) at (tag-is refl))
       where
         after : ℕ × ℕ → Answer (Block × ℕ)
-        after (dim, m) = pick (ltb ((length body - (at + 1 + m)) / 4) dim) (refuses 7) (gives (vector (at + 1 + m) dim, at + 1 + m + 4 * dim))
+        after (dim, m) =
+            pick (ltb ((length body - (at + 1 + m)) / 4) dim) (refuses 7) (gives (vector (at + 1 + m) dim, at + 1 + m + 4 * dim))
 
-        by2 : (t : Bool) → Gives b (pick t (refuses 7) (gives (vector (at + 1 + n) v, at + 1 + n + 4 * v))) → vector (at + 1 + n) v ≡ b .value
+        by2 : (t : Bool) → Gives b (pick t (refuses 7) (gives (vector (at + 1 + n) v, at + 1 + n + 4 * v)))
+            → vector (at + 1 + n) v ≡ b .value
         by2 true g = absurd (gives-refuses g)
         by2 false g = sym (ap first (gives-one g))
 
@@ -251,7 +258,8 @@ record First (n c map : ℕ) (body : List ℕ) (at : ℕ) (bs : List Block) (end
   pub more : gives (tail, end) ≡ columns n (c + 1) map body next
   pub parts : head ∷ tail ≡ bs
 
-first-of : (n c map : ℕ) (body : List ℕ) (at : ℕ) {bs : List Block} {end : ℕ} → gives (bs, end) ≡ columns (suc n) c map body at → First n c map body at bs end
+first-of : (n c map : ℕ) (body : List ℕ) (at : ℕ) {bs : List Block} {end : ℕ} → gives (bs, end) ≡ columns (suc n) c map body at
+    → First n c map body at bs end
 unfolding columns andThen
 first-of n c map body at {bs} {end} g = by (reading c map body at) refl (sym g)
   where
@@ -264,13 +272,15 @@ first-of n c map body at {bs} {end} g = by (reading c map body at) refl (sym g)
     by2 p r (refuses k) h g = absurd (gives-refuses (sym g))
 
     by : (a : Answer (Block × ℕ)) → reading c map body at ≡ a
-        → andThen {B = List Block × ℕ} a (λ (b, next). andThen (columns n (c + 1) map body next) (λ (cs, x). gives (b ∷ cs, x))) ≡ gives (bs, end)
+        → andThen {B = List Block × ℕ} a (λ (b, next). andThen (columns n (c + 1) map body next) (λ (cs, x). gives (b ∷ cs, x)))
+        ≡ gives (bs, end)
         → First n c map body at bs end
     by (gives p) r g = by2 p r (columns n (c + 1) map body (p .1)) refl g
     by (refuses k) r g = absurd (gives-refuses (sym g))
 
 -- as many blocks as columns
-pub counted : (n c map : ℕ) (body : List ℕ) (at : ℕ) {bs : List Block} {end : ℕ} → gives (bs, end) ≡ columns n c map body at → length bs ≡ n
+pub counted : (n c map : ℕ) (body : List ℕ) (at : ℕ) {bs : List Block} {end : ℕ} → gives (bs, end) ≡ columns n c map body at
+    → length bs ≡ n
 unfolding columns
 counted zero c map body at g = ap (λ (p : List Block × ℕ). length (p .0)) (gives-one g)
 counted (suc n) c map body at g =
@@ -284,7 +294,8 @@ pub record Located (i c map : ℕ) (body : List ℕ) (at : ℕ) (b : Block) : Ty
   pub reached : gives place ≡ columnsEnd i c map body at
   pub read : gives (b, next) ≡ reading (c + i) map body place
 
-pub located : (i n c map : ℕ) (body : List ℕ) (at : ℕ) {bs : List Block} {end : ℕ} → gives (bs, end) ≡ columns n c map body at → i < n → Located i c map body at (nth bs i)
+pub located : (i n c map : ℕ) (body : List ℕ) (at : ℕ) {bs : List Block} {end : ℕ} → gives (bs, end) ≡ columns n c map body at → i < n
+    → Located i c map body at (nth bs i)
 unfolding columns columnsEnd columnEnd andThen nth
 located i zero c map body at g l = absurd (omega arith)
 located zero (suc n) c map body at g l =
@@ -310,17 +321,6 @@ column-is count map body column g = rw (← g)
 module _ {body : List ℕ} {count map column : ℕ} (k : ColumnOf body count map column) where
   here : Located column 0 map body (map + bitmapBytes count) (nth (k .blocks) column)
   here = located column count 0 map body (map + bitmapBytes count) (k .read) (k .one)
-
-  pub bit-inside : map + column / 8 < length body
-  unfolding bitmapBytes
-  bit-inside = let o = k .one in let r = k .room in omega arith
-
-  pub bits-inside : map + bitmapBytes column ≤ length body
-  unfolding bitmapBytes
-  bits-inside = let o = k .one in let r = k .room in omega arith
-
-  pub blocks-start : {b : ℕ} → b ≡ bitmapBytes count → map + b ≤ length body
-  blocks-start e = rw e (k .room)
 
   module _ {t : Bool} (d : t ≡ isNull body map column) (shift : ℕ) where
     pub null-value : t ≡ true → paperValue W.Null ≡ moved shift (columnAt count map body column)
@@ -376,7 +376,8 @@ module _ (body : List ℕ) {rowid count map end : ℕ} (k : Locally body rowid c
       pub column-of : ColumnOf body count map column
       column-of = let g = k .given l in record { blocks = g .blocks; read = g .walk; room = g .room; one = h }
 
-      pub body-value : (v : Value) → paperValue v ≡ moved shift (columnAt count map body column) → paperAsked (A.Value v) ≡ bodyValue body shift column
+      pub body-value : (v : Value) → paperValue v ≡ moved shift (columnAt count map body column)
+          → paperAsked (A.Value v) ≡ bodyValue body shift column
       unfolding paperAsked pick
       body-value v p = rw (body-decides, lt-ltb column count h, column-is count map body column (k .given l .walk), p)
 
@@ -439,9 +440,6 @@ pub ruleset values = (
   vector-start,
   vector-place,
   vector-value,
-  bit-inside,
-  bits-inside,
-  blocks-start,
   null-value,
   block-there,
   block-value,
