@@ -5,36 +5,36 @@ use Rattle.paper.specs.Answer.{Answer, gives, refuses}
 use Rattle.cell.specs.Block.{Block, null, integer, real, bool, text, vector}
 use Rattle.cell.specs.PaperValue.{paperValue, paperAsked}
 use Rattle.cell.specs.declared.value.Value.{Value}
-use Rattle.cell.specs.declared.value.Value.the-variants as W
+use Rattle.cell.specs.declared.value.Value.the-variants as Val
 use Rattle.cell.specs.declared.value.Asked.{Asked}
-use Rattle.cell.specs.declared.value.Asked.the-variants as A
+use Rattle.cell.specs.declared.value.Asked.the-variants as Ask
 
 -- the way back
 valueOf : Block → Value
-valueOf null = W.Null
-valueOf (integer v) = W.Integer v
-valueOf (real f bits) = W.Real f bits
-valueOf (bool b) = W.Bool b
-valueOf (text at len) = W.Text at len
-valueOf (vector at dim) = W.Vector at dim
+valueOf null = Val.Null
+valueOf (integer v) = Val.Integer v
+valueOf (real f bits) = Val.Real f bits
+valueOf (bool b) = Val.Bool b
+valueOf (text at len) = Val.Text at len
+valueOf (vector at dim) = Val.Vector at dim
 
 askedOf : Answer Block → Asked
-askedOf (gives b) = A.Value (valueOf b)
-askedOf (refuses k) = A.Refused k
+askedOf (gives b) = Ask.Value (valueOf b)
+askedOf (refuses k) = Ask.Refused k
 
 value-back : (v : Value) → valueOf (paperValue v) ≡ v
 unfolding paperValue valueOf
-value-back W.Null = refl
-value-back (W.Integer v) = refl
-value-back (W.Real f bits) = refl
-value-back (W.Bool b) = refl
-value-back (W.Text at len) = refl
-value-back (W.Vector at dim) = refl
+value-back Val.Null = refl
+value-back (Val.Integer v) = refl
+value-back (Val.Real f bits) = refl
+value-back (Val.Bool b) = refl
+value-back (Val.Text at len) = refl
+value-back (Val.Vector at dim) = refl
 
 asked-back : (r : Asked) → askedOf (paperAsked r) ≡ r
 unfolding paperAsked askedOf
-asked-back (A.Value v) = ap A.Value (value-back v)
-asked-back (A.Refused k) = refl
+asked-back (Ask.Value v) = ap Ask.Value (value-back v)
+asked-back (Ask.Refused k) = refl
 
 pub exact-value : (a b : Value) → paperValue a ≡ paperValue b → a ≡ b
 exact-value a b e = sym (value-back a) ∙ ap valueOf e ∙ value-back b

@@ -32,11 +32,11 @@ use Rattle.cell.specs.Entry.{framed}
 use Rattle.cell.specs.Block.{Block, null, integer, real, bool, text, vector, block, blockOf, columns, isNull, bitmapBytes}
 use Rattle.cell.specs.Local.{moved, nth, valueFrom, valueAt}
 use Rattle.cell.specs.Words.{columnEnd, columnsEnd, Locally, Frame}
-use Rattle.cell.specs.ByColumn.{readOr, blockAt, columnAt, bodyValue, BlockAt, ColumnOf}
+use Rattle.cell.specs.ByColumn.{readOr, blockAt, columnAt, bodyValue, HasBlock, HasColumn}
 use Rattle.cell.specs.PaperValue.{paperValue, paperAsked}
 use Rattle.cell.specs.declared.value.Value.{Value}
-use Rattle.cell.specs.declared.value.Value.the-variants as W
-use Rattle.cell.specs.declared.value.Asked.the-variants as A
+use Rattle.cell.specs.declared.value.Value.the-variants as Val
+use Rattle.cell.specs.declared.value.Asked.the-variants as Ask
 use Rattle.cell.proofs.Columns.{columns-step}
 
 -- ---- the float of a pattern
@@ -60,10 +60,10 @@ module _ (n : ℕ) where
   plain-pattern l = rw (above, le-ltb 0x7FF0000000000000 (n % 2 ^ 63) l) tt
 
   pub nan-pattern : 0x7FF0000000000000 < n % 2 ^ 63
-      → W.Real (div binary64 (ofBits binary64 0) (ofBits binary64 0)) n ≡ W.Real (ofBits binary64 n) n
+      → Val.Real (div binary64 (ofBits binary64 0) (ofBits binary64 0)) n ≡ Val.Real (ofBits binary64 n) n
   nan-pattern l =
       let t : T (isNan (ofBits binary64 n)) = rw (← nanBits-is binary64 n, above, lt-ltb 0x7FF0000000000000 (n % 2 ^ 63) l) tt in
-      ap (λ (f : Float). W.Real f n) (divided ∙ sym (only-nan (ofBits binary64 n) t))
+      ap (λ (f : Float). Val.Real f n) (divided ∙ sym (only-nan (ofBits binary64 n) t))
 
 -- ---- the value of a block
 
@@ -91,10 +91,10 @@ unfolding blockAt readOr
 block-is body at g = rw (← g)
 
 -- the definition, as far as it was followed, still gives the block
-abbrev Gives : {body : List ℕ} {at : ℕ} → BlockAt body at → Answer (Block × ℕ) → Type 0
+abbrev Gives : {body : List ℕ} {at : ℕ} → HasBlock body at → Answer (Block × ℕ) → Type 0
 Gives b q = gives (b .value, b .end) ≡ q
 
-module _ (body : List ℕ) (at : ℕ) (b : BlockAt body at) where
+module _ (body : List ℕ) (at : ℕ) (b : HasBlock body at) where
   pub block-here : at < length body
   unfolding block pick
   block-here = by (ltb at (length body)) refl (b .read)
@@ -183,7 +183,7 @@ module _ (body : List ℕ) (at : ℕ) (b : BlockAt body at) where
         by false g = absurd (gives-refuses g)
 
 -- the same in the code's words, in the caller's buffer
-module _ (body : List ℕ) (at shift : ℕ) (b : BlockAt body at) where
+module _ (body : List ℕ) (at shift : ℕ) (b : HasBlock body at) where
   paper-is : {x y : Block} → y ≡ moved shift x → x ≡ b .value → y ≡ moved shift (blockAt body at)
   paper-is p d = rw (← block-is body at (b .read), ← d) p
 
@@ -191,7 +191,7 @@ module _ (body : List ℕ) (at shift : ℕ) (b : BlockAt body at) where
   next-fits l = let h = block-here body at b in record { fits = omega arith }
 
   pub integer-value : {v n : ℕ} {z : ℤ} → getD body at 0 ≡ 0 → FoundAt body (at + 1) v n → z ≡ unzigzag v
-      → paperValue (W.Integer z) ≡ moved shift (blockAt body at)
+      → paperValue (Val.Integer z) ≡ moved shift (blockAt body at)
   unfolding paperValue moved
   integer-value {v} e f d = paper-is {x = integer (unzigzag v)} (rw d) (integer-is body at b e f)
 
@@ -203,7 +203,7 @@ module _ (body : List ℕ) (at shift : ℕ) (b : BlockAt body at) where
     real-inside = rw (rest body (at + 1), length-drop (at + 1) body) (real-room body at b e)
 
     pub real-value : {r : Value} {bits : ℕ} → bits ≡ le 8 0 (take (length body - (at + 1)) (drop (at + 1) body))
-        → r ≡ W.Real (ofBits binary64 bits) bits → paperValue r ≡ moved shift (blockAt body at)
+        → r ≡ Val.Real (ofBits binary64 bits) bits → paperValue r ≡ moved shift (blockAt body at)
     unfolding paperValue moved
     real-value {r} {bits} d q =
         let p : bits ≡ le 8 (at + 1) body = d ∙ ap (λ (s : List ℕ). le 8 0 s) (rest body (at + 1)) ∙ at-place in
@@ -219,7 +219,7 @@ module _ (body : List ℕ) (at shift : ℕ) (b : BlockAt body at) where
     pub text-place : shift + length body < 2 ^ 63 → Fits w64 (shift + (at + 1 + n))
     text-place l = let (d, i) = text-found body at b e f in record { fits = omega arith }
 
-    pub text-value : paperValue (W.Text (shift + (at + 1 + n)) v) ≡ moved shift (blockAt body at)
+    pub text-value : paperValue (Val.Text (shift + (at + 1 + n)) v) ≡ moved shift (blockAt body at)
     unfolding paperValue moved
     text-value = let (d, i) = text-found body at b e f in paper-is {x = text (at + 1 + n) v} refl d
 
@@ -227,7 +227,7 @@ module _ (body : List ℕ) (at shift : ℕ) (b : BlockAt body at) where
     pub bool-here : at + 1 < length body
     bool-here = let (d, i) = bool-found body at b e in i
 
-    pub bool-value : paperValue (W.Bool (not (eqb (getD body (at + 1) 0) 0))) ≡ moved shift (blockAt body at)
+    pub bool-value : paperValue (Val.Bool (not (eqb (getD body (at + 1) 0) 0))) ≡ moved shift (blockAt body at)
     unfolding paperValue moved
     bool-value = let (d, i) = bool-found body at b e in paper-is {x = bool (not (eqb (getD body (at + 1) 0) 0))} refl d
 
@@ -239,7 +239,7 @@ module _ (body : List ℕ) (at shift : ℕ) (b : BlockAt body at) where
     pub vector-place : shift + length body < 2 ^ 63 → Fits w64 (shift + (at + 1 + n))
     vector-place l = let (d, i) = vector-found body at b n0 n1 n2 n3 f in record { fits = omega arith }
 
-    pub vector-value : paperValue (W.Vector (shift + (at + 1 + n)) v) ≡ moved shift (blockAt body at)
+    pub vector-value : paperValue (Val.Vector (shift + (at + 1 + n)) v) ≡ moved shift (blockAt body at)
     unfolding paperValue moved
     vector-value = let (d, i) = vector-found body at b n0 n1 n2 n3 f in paper-is {x = vector (at + 1 + n) v} refl d
 
@@ -318,12 +318,12 @@ column-is : (count map : ℕ) (body : List ℕ) (column : ℕ) {bs : List Block}
 unfolding columnAt readOr
 column-is count map body column g = rw (← g)
 
-module _ {body : List ℕ} {count map column : ℕ} (k : ColumnOf body count map column) where
+module _ {body : List ℕ} {count map column : ℕ} (k : HasColumn body count map column) where
   here : Located column 0 map body (map + bitmapBytes count) (nth (k .blocks) column)
   here = located column count 0 map body (map + bitmapBytes count) (k .read) (k .one)
 
   module _ {t : Bool} (d : t ≡ isNull body map column) (shift : ℕ) where
-    pub null-value : t ≡ true → paperValue W.Null ≡ moved shift (columnAt count map body column)
+    pub null-value : t ≡ true → paperValue Val.Null ≡ moved shift (columnAt count map body column)
     unfolding paperValue moved pick
     null-value e =
         let p : null ≡ nth (k .blocks) column = sym (ap first (gives-one (rw (zero-add column, ← d, e) at (here .read)))) in
@@ -345,7 +345,7 @@ module _ {body : List ℕ} {count map column : ℕ} (k : ColumnOf body count map
       unfolding pick
       there = rw walked (rw (zero-add column, ← d, e) at (here .read))
 
-      pub block-there : BlockAt body at
+      pub block-there : HasBlock body at
       block-there = record { value = nth (k .blocks) column; end = here .next; read = there }
 
       pub block-value : {x : Block} → x ≡ moved shift (blockAt body at) → x ≡ moved shift (columnAt count map body column)
@@ -356,7 +356,7 @@ module _ (body : List ℕ) {rowid count map end : ℕ} (k : Locally body rowid c
   pub body-number : 2 ^ 63 ≤ end → 2 ^ 64 - 256 ≤ end
   body-number l = k .top l
 
-  pub body-refused : {r : ℕ} → 2 ^ 63 ≤ end → r ≡ 2 ^ 64 - 1 - end → paperAsked (A.Refused r) ≡ bodyValue body shift column
+  pub body-refused : {r : ℕ} → 2 ^ 63 ≤ end → r ≡ 2 ^ 64 - 1 - end → paperAsked (Ask.Refused r) ≡ bodyValue body shift column
   unfolding paperAsked bodyValue andThen
   body-refused l d = rw (← k .refused l, d)
 
@@ -368,16 +368,16 @@ module _ (body : List ℕ) {rowid count map end : ℕ} (k : Locally body rowid c
         let e : length (g .blocks) ≡ count = counted count 0 map body (map + bitmapBytes count) (g .walk) in
         rw (← g .read, e)
 
-    pub body-past : count ≤ column → paperAsked (A.Refused 12) ≡ bodyValue body shift column
+    pub body-past : count ≤ column → paperAsked (Ask.Refused 12) ≡ bodyValue body shift column
     unfolding paperAsked pick
     body-past h = rw (body-decides, le-ltb column count h)
 
     module _ (h : column < count) where
-      pub column-of : ColumnOf body count map column
+      pub column-of : HasColumn body count map column
       column-of = let g = k .given l in record { blocks = g .blocks; read = g .walk; room = g .room; one = h }
 
       pub body-value : (v : Value) → paperValue v ≡ moved shift (columnAt count map body column)
-          → paperAsked (A.Value v) ≡ bodyValue body shift column
+          → paperAsked (Ask.Value v) ≡ bodyValue body shift column
       unfolding paperAsked pick
       body-value v p = rw (body-decides, lt-ltb column count h, column-is count map body column (k .given l .walk), p)
 
@@ -385,7 +385,7 @@ module _ (s : List ℕ) {at end : ℕ} (f : Frame s at end) (pos column : ℕ) w
   pub frame-number : 2 ^ 63 ≤ end → 2 ^ 64 - 256 ≤ end
   frame-number l = f .top l
 
-  pub frame-refused : {r : ℕ} → 2 ^ 63 ≤ end → r ≡ 2 ^ 64 - 1 - end → paperAsked (A.Refused r) ≡ valueFrom s pos column
+  pub frame-refused : {r : ℕ} → 2 ^ 63 ≤ end → r ≡ 2 ^ 64 - 1 - end → paperAsked (Ask.Refused r) ≡ valueFrom s pos column
   unfolding paperAsked valueFrom andThen
   frame-refused l d = rw (← f .refused l, d)
 
@@ -411,7 +411,7 @@ module _ (s : List ℕ) {at end : ℕ} (f : Frame s at end) (pos column : ℕ) w
     frame-value p = rw (← f .given l) p
 
 module _ (buf : List ℕ) (pos column : ℕ) where
-  pub entry-missing : length buf ≤ pos → paperAsked (A.Refused 1) ≡ valueAt buf pos column
+  pub entry-missing : length buf ≤ pos → paperAsked (Ask.Refused 1) ≡ valueAt buf pos column
   unfolding paperAsked valueAt valueFrom framed andThen readU64
   entry-missing l = rw (← at-short buf pos (found-past buf pos l) refl)
 

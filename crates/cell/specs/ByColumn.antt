@@ -8,7 +8,7 @@ use Rattle.paper.specs.Answer.{Answer, gives, refuses, andThen, pick}
 use Rattle.cell.specs.Block.{Block, null, block, columns, bitmapBytes}
 use Rattle.cell.specs.Local.{localBody, moved, nth}
 
--- what was read before a place, or something else where it was refused
+-- what was read, without the place behind it; or something else where it was refused
 unfoldable pub readOr : {A : Type 0} → A → Answer (A × ℕ) → A
 readOr other (gives (a, end)) = a
 readOr other (refuses k) = other
@@ -27,13 +27,13 @@ bodyValue body shift column =
     andThen (localBody body) (λ (rowid, bs). pick (ltb column (length bs)) (gives (moved shift (nth bs column))) (refuses 12))
 
 -- a value block stands at the place
-pub record BlockAt (body : List ℕ) (at : ℕ) : Type 0 where
+pub record HasBlock (body : List ℕ) (at : ℕ) : Type 0 where
   pub value : Block
   pub end : ℕ
   pub read : gives (value, end) ≡ block body at
 
 -- a body whose columns were all read has this one
-pub record ColumnOf (body : List ℕ) (count map column : ℕ) : Type 0 where
+pub record HasColumn (body : List ℕ) (count map column : ℕ) : Type 0 where
   pub blocks : List Block
   pub read : gives (blocks, length body) ≡ columns count 0 map body (map + bitmapBytes count)
   pub room : map + bitmapBytes count ≤ length body

@@ -2,18 +2,18 @@
 use Rattle.paper.specs.Answer.{Answer, gives, refuses}
 use Rattle.cell.specs.Block.{Block, null, integer, real, bool, text, vector}
 use Rattle.cell.specs.declared.value.Value.{Value}
-use Rattle.cell.specs.declared.value.Value.the-variants as W
+use Rattle.cell.specs.declared.value.Value.the-variants as Val
 use Rattle.cell.specs.declared.value.Asked.{Asked}
-use Rattle.cell.specs.declared.value.Asked.the-variants as A
+use Rattle.cell.specs.declared.value.Asked.the-variants as Ask
 
 unfoldable pub paperValue : Value → Block
-paperValue W.Null = null
-paperValue (W.Integer v) = integer v
-paperValue (W.Real f bits) = real f bits
-paperValue (W.Bool b) = bool b
-paperValue (W.Text at len) = text at len
-paperValue (W.Vector at dim) = vector at dim
+paperValue Val.Null = null
+paperValue (Val.Integer v) = integer v
+paperValue (Val.Real f bits) = real f bits
+paperValue (Val.Bool b) = bool b
+paperValue (Val.Text at len) = text at len
+paperValue (Val.Vector at dim) = vector at dim
 
 unfoldable pub paperAsked : Asked → Answer Block
-paperAsked (A.Value v) = gives (paperValue v)
-paperAsked (A.Refused k) = refuses k
+paperAsked (Ask.Value v) = gives (paperValue v)
+paperAsked (Ask.Refused k) = refuses k

@@ -4,7 +4,7 @@ ghost use Prim.Native.Nat.{_+_, _^_, _<_};
 ghost use lib.Ieee.{ofBits, binary64};
 ghost use lib.ListN.{length};
 ghost use Rattle.cell.specs.Local.{valueAt, valueFrom, moved};
-ghost use Rattle.cell.specs.ByColumn.{blockAt, columnAt, bodyValue, BlockAt, ColumnOf};
+ghost use Rattle.cell.specs.ByColumn.{blockAt, columnAt, bodyValue, HasBlock, HasColumn};
 ghost use Rattle.cell.specs.PaperValue.{paperValue, paperAsked};
 use crate::inner;
 use crate::inner::NO_PLACE;
@@ -39,15 +39,15 @@ fn real(bits: u64) -> Value
 
 // The value of the block at `at`; `body` starts at place `shift` of the caller's slice.
 fn value_block(body: &[u8], at: usize, shift: usize) -> Value
-    requires { ⌜ BlockAt (now body) at × (shift + length (now body) < 2 ^ 63) ⌝ }
+    requires { ⌜ HasBlock (now body) at × (shift + length (now body) < 2 ^ 63) ⌝ }
     ensures { λ r. ⌜ paperValue r ≡ moved shift (blockAt (now (body .entry)) at) ⌝ }
 {
     let tag = body[at];
     let next = at + 1;
     match tag {
         0 => {
-            let number = varint::inner::value_at(body, next);
-            Value::Integer(varint::zigzag_decode(number.value))
+            let found = varint::inner::value_at(body, next);
+            Value::Integer(varint::zigzag_decode(found.value))
         }
         1 => real(field::inner::u64_at(&body[next..])),
         2 => {
@@ -55,6 +55,7 @@ fn value_block(body: &[u8], at: usize, shift: usize) -> Value
             Value::Text(shift + (next + len.taken), len.value as usize)
         }
         3 => Value::Bool(body[next] != 0),
+        // 4: no other tag was accepted.
         _ => {
             let dim = varint::inner::value_at(body, next);
             Value::Vector(shift + (next + dim.taken), dim.value as usize)
@@ -64,7 +65,7 @@ fn value_block(body: &[u8], at: usize, shift: usize) -> Value
 
 // The value of one of `columns` columns, whose bitmap stands at `map`.
 fn column_block(body: &[u8], columns: usize, map: usize, column: usize, shift: usize) -> Value
-    requires { ⌜ ColumnOf (now body) columns map column × (shift + length (now body) < 2 ^ 63) ⌝ }
+    requires { ⌜ HasColumn (now body) columns map column × (shift + length (now body) < 2 ^ 63) ⌝ }
     ensures { λ r. ⌜ paperValue r ≡ moved shift (columnAt columns map (now (body .entry)) column) ⌝ }
 {
     if inner::is_null(body, map, column) {
