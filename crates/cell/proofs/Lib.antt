@@ -4,3 +4,5 @@ pub mod Bodies
 pub mod Peeks
 pub mod Heads
 pub mod Keys
+pub mod Values
+pub mod ExactValue

@@ -3,6 +3,8 @@ pub mod Block
 pub mod Local
 pub mod Words
 pub mod Keyed
+pub mod ByColumn
+pub mod PaperValue
 pub mod Content
 pub mod ValueList
 pub mod Written
