@@ -1,1 +1,2 @@
 // Cells: the port of cell.rs.
+pub mod encode;

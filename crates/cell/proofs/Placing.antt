@@ -1,0 +1,73 @@
+-- Writers one after another: each writes its bytes over a part of the output that was lent to it.
+-- Assumes nothing.
+use mathlib.Core.Path.{_≡_, refl, sym, _∙_, ap}
+use mathlib.Core.List.{List, [], _∷_, _++_, append-assoc, append-nil}
+use Prim.Native.Nat.{ℕ, zero, suc, _+_, _-_, _≤_, _<_}
+use native.Mathlib.Nat.{zero-add, add-zero}
+use native.Mathlib.Numerals.{add-one}
+use native.Mathlib.Omega.{arith}
+use lib.ListN.{length, take, drop, getD, set, length-append, length-take, length-drop, length-set, take-append-drop, drop-of-length-le}
+use lib.Seq.{take-all, length-take-le, drop-drop, drop-cons, drop-length, sets, sets-eq, length-sets, take-at, drop-at}
+use borrow.Author.Needs.{needs}
+use borrow.Rule.Slice.PartMut.{putMid}
+use Rattle.paper.specs.Answer.{over}
+
+-- what a part that goes to the end is
+pub rest-all : (s : List ℕ) (a : ℕ) → take (length s - a) (drop a s) ≡ drop a s
+rest-all s a = take-all (length s - a) (drop a s) (rw (length-drop a s) (omega arith))
+
+-- bytes over the output from a place on
+abbrev pub overAt : List ℕ → ℕ → List ℕ → List ℕ
+overAt out at bytes = take at out ++ over (drop at out) bytes
+
+pub length-over : (out bytes : List ℕ) → length bytes ≤ length out → length (over out bytes) ≡ length out
+unfolding over
+length-over out bytes l = rw (length-append bytes (drop (length bytes) out), length-drop (length bytes) out) (omega arith)
+
+-- a part was lent and is back
+pub lent : (out : List ℕ) (at : ℕ) (bytes : List ℕ) {new : List ℕ} → new ≡ over (take (length out - at) (drop at out)) bytes → at ≤ length out
+    → putMid at (length out - at) out new ≡ overAt out at bytes
+lent out at bytes e l =
+    let d : drop (length out - at) (drop at out) ≡ [] = drop-of-length-le (drop at out) {i = length out - at} (rw (length-drop at out) (omega arith)) in
+    rw (d, e, rest-all out at, append-nil (over (drop at out) bytes))
+
+-- a second writer after a first
+pub over-then : (out a b : List ℕ) (n : ℕ) → n ≡ length a → n + length b ≤ length out → overAt (over out a) n b ≡ over out (a ++ b)
+unfolding over
+over-then out a b n e l =
+    let t : take n (a ++ drop (length a) out) ≡ a = take-at a (drop (length a) out) n (sym e) in
+    let d : drop n (a ++ drop (length a) out) ≡ drop (length a) out = drop-at a (drop (length a) out) n (sym e) in
+    rw (t, d, length-append a b, drop-drop (length b) (length a) out, append-assoc a b (drop (length a + length b) out))
+
+-- ---- a loop that stores byte after byte
+pub record Storing (out₀ bytes out : List ℕ) (i : ℕ) : Type 0 where
+  pub room : length bytes ≤ length out₀
+  pub long : length out ≡ length out₀
+  pub inside : i ≤ length bytes
+  pub same : sets out i (drop i bytes) ≡ sets out₀ 0 bytes
+
+pub storing-start : (out bytes : List ℕ) → length bytes ≤ length out → Storing out bytes out 0
+storing-start out bytes l = record { room = l; long = refl; inside = omega arith; same = refl }
+
+module _ {out₀ bytes out : List ℕ} {i : ℕ} (w : Storing out₀ bytes out i) where
+  pub storing-inside : i < length bytes → i < length out
+  storing-inside h = omega arith
+
+  pub storing-more : {v : ℕ} → i < length bytes → v ≡ getD bytes i 0 → Storing out₀ bytes (set out i v) (i + 1)
+  storing-more {v} h e =
+      record {
+        room = w .room;
+        long = length-set out i v ∙ w .long;
+        inside = omega arith;
+        same = rw (e, add-one i) (rw (drop-cons bytes i 0 h) at (w .same));
+      }
+
+  pub storing-done : length bytes ≤ i → out ≡ over out₀ bytes
+  unfolding over
+  storing-done h =
+      let z : 0 + length bytes ≡ length bytes = zero-add (length bytes) in
+      let e : out ≡ sets out₀ 0 bytes = rw (drop-of-length-le bytes h) at (w .same) in
+      let l : 0 + length bytes ≤ length out₀ = omega (arith, w .room) in
+      e ∙ sets-eq bytes out₀ 0 l ∙ ap (λ (n : ℕ). bytes ++ drop n out₀) z
+
+pub ruleset placing = (needs, lent, over-then, length-over, storing-start, storing-inside, storing-more, storing-done)

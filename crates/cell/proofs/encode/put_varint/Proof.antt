@@ -1,0 +1,13 @@
+-- `cell::encode::put_varint` meets its contract. Assumes nothing.
+use native.Mathlib.Omega.{arith}
+use Rattle.cell.proofs.Numbers.{numbers}
+use Rattle.cell.proofs.encode.put_varint.Statement.{statement}
+use Rattle.cell.proofs.encode.put_varint.Tie as tie
+
+pub put-varint-spec : {M : Type 1} → statement M
+put-varint-spec =
+    tie.close
+    (tie.spec
+    (λ c. search numbers) (λ c. search numbers) (λ c. search numbers) (λ c. search numbers) (λ c κs. search numbers)
+    (λ c. search numbers) (λ c. search numbers) (λ c. search numbers) (λ c. search numbers) (λ c. search numbers)
+    (λ c. search numbers))
