@@ -32,12 +32,20 @@ lent out at bytes e l =
     rw (d, e, rest-all out at, append-nil (over (drop at out) bytes))
 
 -- a second writer after a first
-pub over-then : (out a b : List ℕ) (n : ℕ) → n ≡ length a → n + length b ≤ length out → overAt (over out a) n b ≡ over out (a ++ b)
+pub over-then : (out a b : List ℕ) (n : ℕ) → n ≡ length a → length a + length b ≤ length out → overAt (over out a) n b ≡ over out (a ++ b)
 unfolding over
 over-then out a b n e l =
     let t : take n (a ++ drop (length a) out) ≡ a = take-at a (drop (length a) out) n (sym e) in
     let d : drop n (a ++ drop (length a) out) ≡ drop (length a) out = drop-at a (drop (length a) out) n (sym e) in
     rw (t, d, length-append a b, drop-drop (length b) (length a) out, append-assoc a b (drop (length a + length b) out))
+
+-- the same, where the second writer was lent the rest
+module _ (out a b x new : List ℕ) (n : ℕ) where
+  pub then-over : x ≡ over out a → n ≡ length a → length a + length b ≤ length out → new ≡ over (take (length x - n) (drop n x)) b
+      → putMid n (length x - n) x new ≡ over out (a ++ b)
+  then-over d e l f =
+      let k : length x ≡ length out = ap length d ∙ length-over out a (omega arith) in
+      lent x n b f (omega arith) ∙ rw d (over-then out a b n e l)
 
 -- ---- a loop that stores byte after byte
 pub record Storing (out₀ bytes out : List ℕ) (i : ℕ) : Type 0 where
@@ -70,4 +78,8 @@ module _ {out₀ bytes out : List ℕ} {i : ℕ} (w : Storing out₀ bytes out i
       let l : 0 + length bytes ≤ length out₀ = omega (arith, w .room) in
       e ∙ sets-eq bytes out₀ 0 l ∙ ap (λ (n : ℕ). bytes ++ drop n out₀) z
 
-pub ruleset placing = (needs, lent, over-then, length-over, storing-start, storing-inside, storing-more, storing-done)
+pub ruleset placing = (
+  needs,
+  then-over,
+  length-over,
+  storing-start, storing-inside, storing-more, storing-done)
