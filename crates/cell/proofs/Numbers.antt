@@ -4,7 +4,7 @@ use mathlib.Core.Path.{_≡_, refl, sym, _∙_, ap}
 use mathlib.Core.List.{List, [], _∷_, _++_}
 use Prim.Native.Nat.{ℕ, suc, _+_, _-_, _*_, _%_, _^_, _≤_, _<_}
 use native.Mathlib.Omega.{arith}
-use lib.ListN.{length, drop, set}
+use lib.ListN.{length, set}
 use lib.IntN.{ℤ, pos, negsuc}
 use mir.Syntax.{w64}
 use mir.Val.{Fits, toZ}
@@ -19,7 +19,7 @@ use Rattle.varint.specs.Paper.{paperWrote}
 use Rattle.varint.specs.declared.Wrote.{Wrote}
 use Rattle.varint.specs.declared.Wrote.the-variants as W
 use Rattle.varint.proofs.Limits.{groups-last, groups-some}
-use Rattle.cell.proofs.Placing.{placing}
+use Rattle.cell.proofs.Placing.{placing, set-first}
 
 -- ---- ZigZag: the bits doubled modulo 2 ^ 64, complemented from 2 ^ 63 on
 pub doubled-plus : {bits r : ℕ} → bits < 2 ^ 63 → r ≡ (bits + bits) % 2 ^ 64 → r ≡ zigzag (toZ w64 bits)
@@ -50,12 +50,7 @@ module _ (value : ℕ) (out : List ℕ) (room : length (lebBytes value) ≤ leng
   byte-size h = rw (leb-byte value h)
 
   pub byte-output : value < 128 → set out 0 value ≡ over out (lebBytes value)
-  unfolding over
-  byte-output h = rw (leb-byte value h) (stored out varint-inside)
-    where
-      stored : (s : List ℕ) → 0 < length s → set s 0 value ≡ value ∷ drop 1 s
-      stored [] l = absurd (omega arith)
-      stored (x ∷ s) l = refl
+  byte-output h = rw (leb-byte value h) (set-first out value varint-inside)
 
   fits : writeU64 value (length out) ≡ gives (lebBytes value)
   unfolding writeU64 lenU64 pick

@@ -31,6 +31,11 @@ lent out at bytes e l =
     let d : drop (length out - at) (drop at out) ≡ [] = drop-of-length-le (drop at out) {i = length out - at} (rw (length-drop at out) (omega arith)) in
     rw (d, e, rest-all out at, append-nil (over (drop at out) bytes))
 
+pub set-first : (out : List ℕ) (v : ℕ) → 0 < length out → set out 0 v ≡ over out (v ∷ [])
+unfolding over
+set-first [] v l = absurd (omega arith)
+set-first (x ∷ out) v l = refl
+
 -- a second writer after a first
 pub over-then : (out a b : List ℕ) (n : ℕ) → n ≡ length a → length a + length b ≤ length out → overAt (over out a) n b ≡ over out (a ++ b)
 unfolding over

@@ -4,3 +4,4 @@ pub mod Local
 pub mod Content
 pub mod ValueList
 pub mod Written
+pub mod Listing

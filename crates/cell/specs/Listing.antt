@@ -1,0 +1,75 @@
+-- A value list, column by column, where it is good: what the steps of the writer say to each other. No public promise names these.
+use Prim.Native.Nat.{ℕ, zero, suc, _+_, _*_, _/_, _%_}
+use mathlib.Core.Bool.{Bool, true, false}
+use mathlib.Core.List.{List, [], _∷_, _++_}
+use lib.Dec.{ltb, eqb}
+use lib.ListN.{length, take, drop}
+use mir.Syntax.{w64}
+use mir.Val.{toZ}
+use Rattle.paper.specs.Answer.{Answer, gives, refuses, pick}
+use Rattle.field.specs.Field.{bytes}
+use Rattle.varint.specs.Leb.{lebBytes}
+use Rattle.varint.specs.Zigzag.{zigzag}
+use Rattle.cell.specs.Content.{Content, none, whole, float, truth, letters, floats}
+use Rattle.cell.specs.ValueList.{wordsOf}
+
+-- the words that are lent as bytes
+unfoldable pub wordList : List ℕ → List ℕ
+wordList words = wordsOf (length words / 8) words
+
+-- ---- one column
+
+-- the data bytes that it takes
+unfoldable pub used : ℕ → ℕ → ℕ
+used kind word = pick (eqb kind 2) word (pick (eqb kind 4) (4 * word) 0)
+
+-- what it holds
+unfoldable pub held : ℕ → ℕ → List ℕ → Content
+held kind word rest =
+    pick (eqb kind 0) (whole (toZ w64 word))
+    (pick (eqb kind 1) (float word)
+    (pick (eqb kind 2) (letters (take word rest))
+    (pick (eqb kind 3) (truth (eqb word 1)) (pick (eqb kind 4) (floats (take (4 * word) rest)) none))))
+
+-- its value block after the tag
+unfoldable pub payload : ℕ → ℕ → List ℕ → List ℕ
+payload kind word rest =
+    pick (eqb kind 0) (lebBytes (zigzag (toZ w64 word)))
+    (pick (eqb kind 1) (bytes 8 word)
+    (pick (eqb kind 3) (pick (eqb word 1) 1 0 ∷ []) (lebBytes word ++ take (used kind word) rest)))
+
+-- the length of its value block: only a tag of 0 to 4 begins one
+unfoldable pub blockLen : ℕ → ℕ → ℕ
+blockLen kind word =
+    pick (ltb 4 kind) 0
+    (pick (eqb kind 0) (1 + length (lebBytes (zigzag (toZ w64 word))))
+    (pick (eqb kind 1) 9 (pick (eqb kind 3) 2 (1 + length (lebBytes word) + used kind word))))
+
+-- its bit of the bitmap
+unfoldable pub kindBit : ℕ → ℕ
+kindBit kind = pick (eqb kind 255) 1 0
+
+-- ---- all columns
+
+unfoldable pub usedAll : List ℕ → List ℕ → ℕ
+usedAll [] words = 0
+usedAll (kind ∷ kinds) [] = 0
+usedAll (kind ∷ kinds) (word ∷ words) = used kind word + usedAll kinds words
+
+unfoldable pub heldAll : List ℕ → List ℕ → List ℕ → List Content
+heldAll [] words rest = []
+heldAll (kind ∷ kinds) [] rest = []
+heldAll (kind ∷ kinds) (word ∷ words) rest = held kind word rest ∷ heldAll kinds words (drop (used kind word) rest)
+
+unfoldable pub kindBits : List ℕ → ℕ
+kindBits [] = 0
+kindBits (kind ∷ kinds) = kindBit kind + 2 * kindBits kinds
+
+-- n bytes of the bitmap, eight columns each
+unfoldable pub kindMap : ℕ → List ℕ → List ℕ
+kindMap zero kinds = []
+kindMap (suc n) kinds = kindBits (take 8 kinds) ∷ kindMap n (drop 8 kinds)
+
+-- ---- a refusal's number beside an answer: 0 where there is none
+unfoldable pub judged : {A : Type 0} → ℕ → A → Answer A
+judged refusal a = pick (eqb refusal 0) (gives a) (refuses refusal)
