@@ -12,15 +12,18 @@ use mir.Syntax.{w64}
 use mir.Val.{Fits, toZ}
 use borrow.Author.Needs.{needs}
 use borrow.Author.Tests.{eq-eqb, ne-eqb, lt-ltb, le-ltb}
+use borrow.Rule.Slice.PartMut.{putMid}
 use Rattle.paper.specs.Answer.{over, pick}
 use Rattle.paper.proofs.Laws.{paper}
 use Rattle.field.specs.Field.{le, bytes}
 use Rattle.field.proofs.Storing.{length-bytes}
 use Rattle.varint.specs.Leb.{lebBytes}
 use Rattle.varint.specs.Zigzag.{zigzag}
+use Rattle.cell.specs.Content.{Content, none}
+use Rattle.cell.specs.Written.{blockBytes}
 use Rattle.cell.specs.ValueList.{wordsOf}
 use Rattle.cell.specs.Listing.{wordList, used, held, payload, blockLen}
-use Rattle.cell.proofs.Placing.{placing, set-first, rest-all}
+use Rattle.cell.proofs.Placing.{placing, set-first, rest-all, length-over, then-over}
 use Rattle.cell.proofs.Numbers.{numbers}
 
 -- ---- data
@@ -121,6 +124,66 @@ pub word-is : (s : List ℕ) (i : ℕ) {r : ℕ} → i < length s / 8 → r ≡ 
 unfolding wordList
 word-is s i h e = rw (words-at (length s / 8) i s h) (rw (rest-all s (8 * i)) at e)
 
+-- ---- the value block: its tag, and what comes after it
+held-block : (kind word : ℕ) (rest : List ℕ) → kind ≤ 4 → used kind word ≤ length rest → blockBytes (held kind word rest) ≡ kind ∷ payload kind word rest
+unfolding blockBytes held payload used pick
+held-block zero word rest k l = refl
+held-block (suc zero) word rest k l = refl
+held-block (suc (suc zero)) word rest k l = rw (length-take-le word rest l)
+held-block (suc (suc (suc zero))) word rest k l = refl
+held-block (suc (suc (suc (suc zero)))) word rest k l =
+    let e : 4 * word / 4 ≡ word = omega arith in
+    rw (length-take-le (4 * word) rest l, e)
+held-block (suc (suc (suc (suc (suc kind))))) word rest k l = absurd (omega arith)
+
+held-none : (kind word : ℕ) (rest : List ℕ) → 4 < kind → held kind word rest ≡ none
+unfolding held
+held-none kind word rest k =
+    let a : kind ≡ 0 → ⊥ = λ e. omega arith in
+    let b : kind ≡ 1 → ⊥ = λ e. omega arith in
+    let c : kind ≡ 2 → ⊥ = λ e. omega arith in
+    let d : kind ≡ 3 → ⊥ = λ e. omega arith in
+    let e : kind ≡ 4 → ⊥ = λ e. omega arith in
+    sym (search paper)
+
+module _ (kind word : ℕ) where
+  pub none-size : (rest : List ℕ) → 4 < kind → 0 ≡ length (blockBytes (held kind word rest))
+  unfolding blockBytes
+  none-size rest k = rw (held-none kind word rest k)
+
+  pub none-output : (rest out : List ℕ) → 4 < kind → out ≡ over out (blockBytes (held kind word rest))
+  unfolding blockBytes over
+  none-output rest out k = rw (held-none kind word rest k)
+
+  module _ (from : ℕ) (s out : List ℕ) (k : kind ≤ 4) (l : from + used kind word ≤ length s) where
+    block-is : blockBytes (held kind word (drop from s)) ≡ kind ∷ payload kind word (drop from s)
+    block-is = held-block kind word (drop from s) k (rw (length-drop from s) (omega arith))
+
+    pub block-size : {r : ℕ} → r ≡ length (payload kind word (drop from s)) → 1 + r ≡ length (blockBytes (held kind word (drop from s)))
+    block-size e = rw block-is (omega arith)
+
+    module _ (room : length (blockBytes (held kind word (drop from s))) ≤ length out) where
+      pub block-inside : 0 < length out
+      block-inside = let h : suc (length (payload kind word (drop from s))) ≤ length out = rw block-is at room in omega arith
+
+      pub block-sum : {r : ℕ} → r ≡ length (payload kind word (drop from s)) → length out < 2 ^ 64 → Fits w64 (1 + r)
+      block-sum e l =
+          let h : suc (length (payload kind word (drop from s))) ≤ length out = rw block-is at room in
+          record { fits = omega arith }
+
+      module _ {x : List ℕ} (d : x ≡ over out (kind ∷ [])) where
+        pub block-room : length (payload kind word (drop from s)) ≤ length (take (length x - 1) (drop 1 x))
+        block-room =
+            let h : suc (length (payload kind word (drop from s))) ≤ length out = rw block-is at room in
+            let n : length x ≡ length out = ap length d ∙ length-over out (kind ∷ []) block-inside in
+            rw (rest-all x 1, length-drop 1 x) (omega arith)
+
+        pub block-output : {new : List ℕ} → new ≡ over (take (length x - 1) (drop 1 x)) (payload kind word (drop from s))
+            → putMid 1 (length x - 1) x new ≡ over out (blockBytes (held kind word (drop from s)))
+        block-output {new} e =
+            let h : suc (length (payload kind word (drop from s))) ≤ length out = rw block-is at room in
+            rw block-is (then-over out (kind ∷ []) (payload kind word (drop from s)) x new 1 d refl (omega arith) e)
+
 pub ruleset blocks = (
   numbers,
   paper,
@@ -141,4 +204,11 @@ pub ruleset blocks = (
   counted-size,
   counted-output,
   word-is,
+  none-size,
+  none-output,
+  block-size,
+  block-inside,
+  block-sum,
+  block-room,
+  block-output,
 )

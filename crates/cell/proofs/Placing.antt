@@ -85,6 +85,7 @@ module _ {out₀ bytes out : List ℕ} {i : ℕ} (w : Storing out₀ bytes out i
 
 pub ruleset placing = (
   needs,
+  set-first,
   then-over,
   length-over,
   storing-start, storing-inside, storing-more, storing-done)

@@ -1,6 +1,6 @@
 // Writing a local entry from its value list: the port of `Cell::encode`.
 ghost use mathlib.Core.Path.{_≡_};
-ghost use mathlib.Core.List.{_++_};
+ghost use mathlib.Core.List.{[], _∷_, _++_};
 ghost use Prim.Native.Nat.{_+_, _*_, _/_, _≤_, _<_};
 ghost use lib.Dec.{eqb};
 ghost use lib.ListN.{length, take, drop, getD};
@@ -56,6 +56,13 @@ fn zigzag_bits(bits: u64) -> u64
 }
 
 // ---- writers: each writes its bytes from the start of an output that has room, and answers how many
+
+fn put_byte(out: &mut [u8], byte: u8)
+    requires { ⌜ 0 < length (now out) ⌝ }
+    ensures { λ _. ⌜ (now (out .exit) ≡ over (now (out .entry)) (byte ∷ [])) × (0 < length (now (out .exit))) ⌝ }
+{
+    out[0] = byte;
+}
 
 // One byte is the common case.
 fn put_varint(out: &mut [u8], value: u64) -> usize
@@ -121,4 +128,94 @@ fn put_payload(out: &mut [u8], kind: u8, word: u64, data: &[u8], from: usize) ->
     }
     let to = from + data_used(kind, word);
     put_counted(out, word, &data[from..to])
+}
+
+// A column's value block, tag first. A null has none.
+fn put_block(out: &mut [u8], kind: u8, word: u64, data: &[u8], from: usize) -> usize
+    requires { ⌜ from + used kind word ≤ length (now «data») ⌝ }
+    requires { ⌜ length (blockBytes (held kind word (drop from (now «data»)))) ≤ length (now out) ⌝ }
+    ensures { λ r. ⌜ r ≡ length (blockBytes (held kind word (drop from (now («data» .entry))))) ⌝ }
+    ensures { λ _. ⌜ now (out .exit) ≡ over (now (out .entry)) (blockBytes (held kind word (drop from (now («data» .entry))))) ⌝ }
+{
+    if VECTOR < kind {
+        return 0;
+    }
+    put_byte(out, kind);
+    1 + put_payload(&mut out[1..], kind, word, data, from)
+}
+
+// The value blocks of all columns.
+fn put_blocks(out: &mut [u8], kinds: &[u8], words: &[u8], data: &[u8])
+    requires { ⌜ length (now kinds) ≡ length (now words) / 8 ⌝ }
+    requires { ⌜ usedAll (now kinds) (wordList (now words)) ≤ length (now «data») ⌝ }
+    requires { ⌜ length (blocksBytes (heldAll (now kinds) (wordList (now words)) (now «data»))) ≤ length (now out) ⌝ }
+    ensures { λ _. ⌜ now (out .exit) ≡ over (now (out .entry)) (blocksBytes (heldAll (now (kinds .entry)) (wordList (now (words .entry))) (now («data» .entry)))) ⌝ }
+{
+    let mut i: usize = 0;
+    let mut from: usize = 0;
+    let mut at: usize = 0;
+    while i < kinds.len() {
+        let kind = kinds[i];
+        let word = word_at(words, i);
+        at += put_block(&mut out[at..], kind, word, data, from);
+        from += data_used(kind, word);
+        i += 1;
+    }
+}
+
+// ---- the null bitmap
+
+fn null_bit(kind: u8) -> u8
+    ensures { λ r. ⌜ r ≡ kindBit kind ⌝ }
+{
+    if kind == NULL { 1 } else { 0 }
+}
+
+// The byte of at most eight columns, the first lowest.
+fn null_bits(kinds: &[u8]) -> u8
+    requires { ⌜ length (now kinds) ≤ 8 ⌝ }
+    ensures { λ r. ⌜ r ≡ kindBits (now (kinds .entry)) ⌝ }
+{
+    let mut byte: u8 = 0;
+    let mut c = kinds.len();
+    while 0 < c {
+        c -= 1;
+        byte = 2 * byte + null_bit(kinds[c]);
+    }
+    byte
+}
+
+// Byte b of the bitmap.
+fn null_byte(kinds: &[u8], b: usize) -> u8
+    requires { ⌜ 8 * b ≤ length (now kinds) ⌝ }
+    ensures { λ r. ⌜ r ≡ kindBits (take 8 (drop (8 * b) (now (kinds .entry)))) ⌝ }
+{
+    let from = 8 * b;
+    if kinds.len() - from < 8 {
+        return null_bits(&kinds[from..]);
+    }
+    let to = from + 8;
+    null_bits(&kinds[from..to])
+}
+
+fn bitmap_bytes(columns: usize) -> usize
+    requires { ⌜ columns ≤ 65536 ⌝ }
+    ensures { λ r. ⌜ r ≡ bitmapBytes columns ⌝ }
+{
+    (columns + 7) / 8
+}
+
+fn put_bitmap(out: &mut [u8], kinds: &[u8]) -> usize
+    requires { ⌜ length (now kinds) ≤ 65536 ⌝ }
+    requires { ⌜ bitmapBytes (length (now kinds)) ≤ length (now out) ⌝ }
+    ensures { λ r. ⌜ r ≡ bitmapBytes (length (now (kinds .entry))) ⌝ }
+    ensures { λ _. ⌜ now (out .exit) ≡ over (now (out .entry)) (kindMap (bitmapBytes (length (now (kinds .entry)))) (now (kinds .entry))) ⌝ }
+{
+    let size = bitmap_bytes(kinds.len());
+    let mut b: usize = 0;
+    while b < size {
+        out[b] = null_byte(kinds, b);
+        b += 1;
+    }
+    size
 }
