@@ -2,3 +2,4 @@ pub mod Placing
 pub mod Numbers
 pub mod Blocks
 pub mod Nulls
+pub mod Putting

@@ -7,7 +7,7 @@ use Prim.Native.Nat.{ℕ, zero, suc, _+_, _-_, _*_, _/_, _^_, _≤_, _<_}
 use native.Mathlib.Nat.{pow-suc}
 use native.Mathlib.Omega.{arith}
 use lib.Dec.{eqb}
-use lib.ListN.{length, take, drop, getD, length-drop}
+use lib.ListN.{length, take, drop, getD, set, length-drop}
 use lib.Pow.{pow-mono}
 use lib.Seq.{drop-cons, drop-drop, drop-length, take-all}
 use mir.Syntax.{w8}
@@ -17,7 +17,7 @@ use Rattle.paper.specs.Answer.{over, pick}
 use Rattle.paper.proofs.Laws.{paper}
 use Rattle.cell.specs.Block.{bitmapBytes}
 use Rattle.cell.specs.Listing.{kindBit, kindBits, kindMap}
-use Rattle.cell.proofs.Placing.{placing, rest-all}
+use Rattle.cell.proofs.Placing.{placing, rest-all, Storing, storing-start, storing-inside, storing-more, storing-done}
 
 -- ---- a byte: the last column first
 pub bit-null : (kind : ℕ) → kind ≡ 255 → 1 ≡ kindBit kind
@@ -113,6 +113,33 @@ pub bitmap-size : {r : ℕ} (columns : ℕ) → r ≡ (columns + 7) / 8 → r �
 unfolding bitmapBytes
 bitmap-size columns e = e
 
+-- the loop over its bytes
+pub record Mapping (out₀ kinds : List ℕ) (size : ℕ) (out : List ℕ) (b : ℕ) : Type 0 where
+  pub sized : size ≡ bitmapBytes (length kinds)
+  pub storing : Storing out₀ (kindMap size kinds) out b
+
+pub mapping-start : {out kinds : List ℕ} {size : ℕ} → size ≡ bitmapBytes (length kinds) → bitmapBytes (length kinds) ≤ length out → Mapping out kinds size out 0
+mapping-start {out} {kinds} {size} e l =
+    record { sized = e; storing = storing-start out (kindMap size kinds) (rw (map-length size kinds) (omega arith)) }
+
+module _ {out₀ kinds out : List ℕ} {size b : ℕ} (w : Mapping out₀ kinds size out b) where
+  pub mapping-done : size ≤ b → out ≡ over out₀ (kindMap (bitmapBytes (length kinds)) kinds)
+  mapping-done h = rw (w .sized) at (storing-done (w .storing) (rw (map-length size kinds) h))
+
+  module _ (h : b < size) where
+    inside : b < length (kindMap size kinds)
+    inside = rw (map-length size kinds) h
+
+    pub mapping-from : 8 * b ≤ length kinds
+    unfolding bitmapBytes
+    mapping-from = omega (arith, w .sized)
+
+    pub mapping-inside : b < length out
+    mapping-inside = storing-inside (w .storing) inside
+
+    pub mapping-more : {v : ℕ} → v ≡ kindBits (take 8 (drop (8 * b) kinds)) → Mapping out₀ kinds size (set out b v) (b + 1)
+    mapping-more e = record { sized = w .sized; storing = storing-more (w .storing) inside (e ∙ sym (map-at size b kinds h)) }
+
 pub ruleset nulls = (
   placing,
   bit-null,
@@ -126,4 +153,9 @@ pub ruleset nulls = (
   byte-last,
   byte-whole,
   bitmap-size,
+  mapping-start,
+  mapping-done,
+  mapping-from,
+  mapping-inside,
+  mapping-more,
 )

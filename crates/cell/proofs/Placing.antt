@@ -44,6 +44,23 @@ over-then out a b n e l =
     let d : drop n (a ++ drop (length a) out) ≡ drop (length a) out = drop-at a (drop (length a) out) n (sym e) in
     rw (t, d, length-append a b, drop-drop (length b) (length a) out, append-assoc a b (drop (length a + length b) out))
 
+pub length-at : (out : List ℕ) (at : ℕ) (bytes : List ℕ) → at + length bytes ≤ length out → length (overAt out at bytes) ≡ length out
+length-at out at bytes l =
+    let k : length bytes ≤ length (drop at out) = rw (length-drop at out) (omega arith) in
+    rw (length-append (take at out) (over (drop at out) bytes), length-over (drop at out) bytes k, length-drop at out, length-take-le at out (omega arith)) (omega arith)
+
+pub at-then : (out : List ℕ) (at : ℕ) (a b : List ℕ) (n : ℕ) → n ≡ length a → at + length a ≤ length out
+    → overAt (overAt out at a) (at + n) b ≡ overAt out at (a ++ b)
+unfolding over
+at-then out at a b n e l =
+    let d : List ℕ = drop (length a) (drop at out) in
+    let k : length (take at out ++ a) ≡ at + n = rw (length-append (take at out) a, length-take-le at out (omega arith)) (omega arith) in
+    let s : take at out ++ (a ++ d) ≡ (take at out ++ a) ++ d = sym (append-assoc (take at out) a d) in
+    let t : take (at + n) ((take at out ++ a) ++ d) ≡ take at out ++ a = take-at (take at out ++ a) d (at + n) k in
+    let u : drop (at + n) ((take at out ++ a) ++ d) ≡ d = drop-at (take at out ++ a) d (at + n) k in
+    let v : drop (length b) d ≡ drop (length (a ++ b)) (drop at out) = drop-drop (length b) (length a) (drop at out) ∙ ap (λ (m : ℕ). drop m (drop at out)) (sym (length-append a b)) in
+    rw (s, t, u, v, append-assoc (take at out) a (b ++ drop (length (a ++ b)) (drop at out)), append-assoc a b (drop (length (a ++ b)) (drop at out)))
+
 -- the same, where the second writer was lent the rest
 module _ (out a b x new : List ℕ) (n : ℕ) where
   pub then-over : x ≡ over out a → n ≡ length a → length a + length b ≤ length out → new ≡ over (take (length x - n) (drop n x)) b
