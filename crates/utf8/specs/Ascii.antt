@@ -1,0 +1,24 @@
+-- Words of ASCII, eight bytes at a time. Nothing of this is promised to callers.
+use Prim.Native.Nat.{ℕ, zero, suc, _+_, _*_, _≤_, _<_}
+use mathlib.Core.Path.{_≡_}
+use mathlib.Core.List.{List}
+use lib.ListN.{length, getD, drop}
+use Rattle.utf8.specs.WellFormed.{wellFormed}
+
+-- n bytes from place i on, the lowest first
+abbrev pub wordFrom : ℕ → ℕ → List ℕ → ℕ
+wordFrom zero i s = 0
+wordFrom (suc n) i s = getD s i 0 + 256 * wordFrom n (suc i) s
+
+abbrev pub word8 : List ℕ → ℕ
+word8 s = wordFrom 8 0 s
+
+-- the first n bytes
+abbrev pub Ascii : ℕ → List ℕ → Type 0
+Ascii n s = (i : ℕ) → i < n → getD s i 0 < 0x80
+
+-- what stands between two places of a text does not matter to what follows
+pub record Passed (s : List ℕ) (from to : ℕ) : Type 0 where
+  pub ahead : from ≤ to
+  pub inside : to ≤ length s
+  pub same : wellFormed (drop to s) ≡ wellFormed (drop from s)

@@ -1,0 +1,189 @@
+// The quick form. Words of plain ASCII are passed over, and whatever else is read by a machine of nine states (specs/Machine.antt).
+ghost use mathlib.Core.Path.{_≡_};
+ghost use mathlib.Core.Bool.{true};
+ghost use Prim.Native.Nat.{_+_, _%_, _≤_, _<_};
+ghost use lib.ListN.{length, drop};
+ghost use Rattle.utf8.specs.WellFormed.{wellFormed};
+ghost use Rattle.utf8.specs.Machine.{State, Moves, Reads, Chart, Packs};
+ghost use Rattle.utf8.specs.Ascii.{word8, Ascii, Passed};
+
+// The high bit of each byte of a word.
+const HIGH: u64 = 0x8080_8080_8080_8080;
+
+// A chart of the bytes 00 to FF, sixteen to a line: bytes that no row of the table tells apart have one letter, and - stands for those in no row.
+// The low four bits of a letter number its class: p is 0, a is 1, and - is none of them.
+const CHART: [u8; 256] = *b"\
+    pppppppppppppppp\
+    pppppppppppppppp\
+    pppppppppppppppp\
+    pppppppppppppppp\
+    pppppppppppppppp\
+    pppppppppppppppp\
+    pppppppppppppppp\
+    pppppppppppppppp\
+    aaaaaaaaaaaaaaaa\
+    bbbbbbbbbbbbbbbb\
+    cccccccccccccccc\
+    cccccccccccccccc\
+    --dddddddddddddd\
+    dddddddddddddddd\
+    effffffffffffgff\
+    hiiij-----------";
+
+// From every state into that of no row.
+const NO_ROW: u64 = 0o06_06_06_06_06_06_06_06_06;
+
+// Where a byte of this class leads from each state: two octal digits to a state, the first state's last.
+// All sixteen numbers are listed, so that this compiles to one load.
+fn moves(class: u8) -> u64
+    ensures { λ r. ⌜ Packs (class % 16) r ⌝ }
+{
+    match class % 16 {
+        0 => 0o06_06_06_06_06_06_06_06_00,
+        1 => 0o22_22_06_14_06_14_00_06_06,
+        2 => 0o06_22_22_14_06_14_00_06_06,
+        3 => 0o06_22_22_06_14_14_00_06_06,
+        4 => 0o06_06_06_06_06_06_06_06_14,
+        5 => 0o06_06_06_06_06_06_06_06_30,
+        6 => 0o06_06_06_06_06_06_06_06_22,
+        7 => 0o06_06_06_06_06_06_06_06_36,
+        8 => 0o06_06_06_06_06_06_06_06_44,
+        9 => 0o06_06_06_06_06_06_06_06_52,
+        10 => 0o06_06_06_06_06_06_06_06_60,
+        11 => NO_ROW,
+        12 => NO_ROW,
+        13 => NO_ROW,
+        14 => NO_ROW,
+        15 => NO_ROW,
+        _ => NO_ROW,
+    }
+}
+
+fn next(state: u64, byte: u8, chart: &[u8; 256]) -> u64
+    requires { ⌜ State state × Chart (now chart) ⌝ }
+    ensures { λ r. ⌜ Moves state byte r ⌝ }
+{
+    moves(chart[byte as usize]) >> (state % 64)
+}
+
+// The machine reads s[from..to].
+fn run(state: u64, s: &[u8], from: usize, to: usize, chart: &[u8; 256]) -> u64
+    requires { ⌜ State state × Chart (now chart) × (from ≤ to) × (to ≤ length (now s)) ⌝ }
+    ensures { λ r. ⌜ Reads (now (s .entry)) state from r to ⌝ }
+{
+    let mut x = state;
+    let mut i = from;
+    while i < to {
+        x = next(x, s[i], chart);
+        i += 1;
+    }
+    x
+}
+
+fn wide(x: u8) -> u64
+    ensures { λ r. ⌜ (r ≡ x) × (r < 256) ⌝ }
+{
+    x as u64
+}
+
+// The first eight bytes as one number, the first lowest: one load.
+fn word(s: &[u8]) -> u64
+    requires { ⌜ 8 ≤ length (now s) ⌝ }
+    ensures { λ r. ⌜ r ≡ word8 (now (s .entry)) ⌝ }
+{
+    wide(s[0])
+        + wide(s[1]) * 0x100
+        + wide(s[2]) * 0x1_0000
+        + wide(s[3]) * 0x100_0000
+        + wide(s[4]) * 0x1_0000_0000
+        + wide(s[5]) * 0x100_0000_0000
+        + wide(s[6]) * 0x1_0000_0000_0000
+        + wide(s[7]) * 0x100_0000_0000_0000
+}
+
+fn plain(s: &[u8]) -> bool
+    requires { ⌜ 8 ≤ length (now s) ⌝ }
+    ensures { λ r. ⌜ (r ≡ true → Ascii 8 (now (s .entry))) ⌝ }
+{
+    word(s) & HIGH == 0
+}
+
+// Four words.
+fn plain4(s: &[u8]) -> bool
+    requires { ⌜ 32 ≤ length (now s) ⌝ }
+    ensures { λ r. ⌜ (r ≡ true → Ascii 32 (now (s .entry))) ⌝ }
+{
+    (word(s) | word(&s[8..]) | word(&s[16..]) | word(&s[24..])) & HIGH == 0
+}
+
+// Passes over whole words of ASCII from this place on: at the place that it answers the text goes on as well-formed as at this one.
+fn past_ascii(s: &[u8], from: usize) -> usize
+    requires { ⌜ from ≤ length (now s) ⌝ }
+    ensures { λ r. ⌜ Passed (now (s .entry)) from r ⌝ }
+{
+    let mut i = from;
+    while 32 <= s.len() - i {
+        if !plain4(&s[i..]) {
+            break;
+        }
+        i += 32;
+    }
+    while 8 <= s.len() - i {
+        if !plain(&s[i..]) {
+            return i;
+        }
+        i += 8;
+    }
+    i
+}
+
+// Whether s[from..] is well-formed, by the machine. A chart is laid out here, so texts of ASCII alone do not come this way.
+fn rest(s: &[u8], from: usize) -> bool
+    requires { ⌜ from ≤ length (now s) ⌝ }
+    ensures { λ r. ⌜ r ≡ wellFormed (drop from (now (s .entry))) ⌝ }
+{
+    let chart = CHART;
+    let mut x = 0;
+    let mut i = from;
+    while 8 <= s.len() - i {
+        x = run(x, s, i, i + 8, &chart);
+        if x % 64 == 6 {
+            return false;
+        }
+        i += 8;
+        if x % 64 == 0 {
+            i = past_ascii(s, i);
+        }
+    }
+    run(x, s, i, s.len(), &chart) % 64 == 0
+}
+
+// Fewer than eight bytes, or any number: byte after byte, as long as they are ASCII.
+fn short(s: &[u8]) -> bool
+    ensures { λ r. ⌜ r ≡ wellFormed (now (s .entry)) ⌝ }
+{
+    let mut i = 0;
+    while i < s.len() {
+        if 0x80 <= s[i] {
+            return rest(s, i);
+        }
+        i += 1;
+    }
+    true
+}
+
+pub fn accepted(s: &[u8]) -> bool
+    ensures { λ r. ⌜ r ≡ wellFormed (now (s .entry)) ⌝ }
+{
+    if s.len() < 8 {
+        return short(s);
+    }
+    let i = past_ascii(s, 0);
+    if s.len() - i < 8 {
+        let last = s.len() - 8;
+        if plain(&s[last..]) {
+            return true;
+        }
+    }
+    rest(s, i)
+}
