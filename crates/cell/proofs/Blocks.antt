@@ -125,7 +125,7 @@ unfolding wordList
 word-is s i h e = rw (words-at (length s / 8) i s h) (rw (rest-all s (8 * i)) at e)
 
 -- ---- the value block: its tag, and what comes after it
-held-block : (kind word : ℕ) (rest : List ℕ) → kind ≤ 4 → used kind word ≤ length rest → blockBytes (held kind word rest) ≡ kind ∷ payload kind word rest
+pub held-block : (kind word : ℕ) (rest : List ℕ) → kind ≤ 4 → used kind word ≤ length rest → blockBytes (held kind word rest) ≡ kind ∷ payload kind word rest
 unfolding blockBytes held payload used pick
 held-block zero word rest k l = refl
 held-block (suc zero) word rest k l = refl
@@ -136,7 +136,7 @@ held-block (suc (suc (suc (suc zero)))) word rest k l =
     rw (length-take-le (4 * word) rest l, e)
 held-block (suc (suc (suc (suc (suc kind))))) word rest k l = absurd (omega arith)
 
-held-none : (kind word : ℕ) (rest : List ℕ) → 4 < kind → held kind word rest ≡ none
+pub held-none : (kind word : ℕ) (rest : List ℕ) → 4 < kind → held kind word rest ≡ none
 unfolding held
 held-none kind word rest k =
     let a : kind ≡ 0 → ⊥ = λ e. omega arith in

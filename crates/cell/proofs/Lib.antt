@@ -3,3 +3,5 @@ pub mod Numbers
 pub mod Blocks
 pub mod Nulls
 pub mod Putting
+pub mod Judging
+pub mod Measuring

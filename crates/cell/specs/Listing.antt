@@ -1,5 +1,6 @@
 -- A value list, column by column, where it is good: what the steps of the writer say to each other. No public promise names these.
-use Prim.Native.Nat.{ℕ, zero, suc, _+_, _*_, _/_, _%_}
+use mathlib.Core.Path.{_≡_}
+use Prim.Native.Nat.{ℕ, zero, suc, _+_, _*_, _/_, _^_, _≤_, _<_}
 use mathlib.Core.Bool.{Bool, true, false}
 use mathlib.Core.List.{List, [], _∷_, _++_}
 use lib.Dec.{ltb, eqb}
@@ -11,7 +12,9 @@ use Rattle.field.specs.Field.{bytes}
 use Rattle.varint.specs.Leb.{lebBytes}
 use Rattle.varint.specs.Zigzag.{zigzag}
 use Rattle.cell.specs.Content.{Content, none, whole, float, truth, letters, floats}
-use Rattle.cell.specs.ValueList.{wordsOf}
+use Rattle.cell.specs.ValueList.{item, wordsOf, valueList}
+use Rattle.cell.specs.Block.{bitmapBytes}
+use Rattle.cell.specs.Written.{blocksBytes}
 
 -- the words that are lent as bytes
 unfoldable pub wordList : List ℕ → List ℕ
@@ -73,3 +76,29 @@ kindMap (suc n) kinds = kindBits (take 8 kinds) ∷ kindMap n (drop 8 kinds)
 -- ---- a refusal's number beside an answer: 0 where there is none
 unfoldable pub judged : {A : Type 0} → ℕ → A → Answer A
 judged refusal a = pick (eqb refusal 0) (gives a) (refuses refusal)
+
+-- one column's refusal: 0 where it holds what `held` says
+pub record Judged (kind word : ℕ) (rest : List ℕ) (refusal : ℕ) : Type 0 where
+  pub same : judged refusal (held kind word rest, drop (used kind word) rest) ≡ item kind word rest
+  pub fits : refusal ≡ 0 → used kind word ≤ length rest
+
+-- the length of all value blocks
+unfoldable pub blocksLen : Answer (List Content) → Answer ℕ
+blocksLen (gives cs) = gives (length (blocksBytes cs))
+blocksLen (refuses k) = refuses k
+
+-- ---- a good list: what it holds, and the length of the body that it makes with a rowid's ZigZag number
+pub record Good (id : ℕ) (kinds words rest : List ℕ) (size : ℕ) : Type 0 where
+  pub listed : valueList kinds words rest ≡ gives (heldAll kinds (wordList words) rest)
+  pub even : length kinds ≡ length words / 8
+  pub columns : length kinds ≤ 65536
+  pub fits : usedAll kinds (wordList words) ≤ length rest
+  pub sum :
+      size ≡ 1 + (length (lebBytes id) + length (lebBytes (length kinds)))
+      + (bitmapBytes (length kinds) + length (blocksBytes (heldAll kinds (wordList words) rest)))
+  pub small : size < 2 ^ 32
+
+-- a list's refusal: 0 where it is good
+pub record Measures (id : ℕ) (kinds words rest : List ℕ) (refusal size : ℕ) : Type 0 where
+  pub refused : (refusal ≡ 0 → ⊥) → valueList kinds words rest ≡ refuses refusal
+  pub good : refusal ≡ 0 → Good id kinds words rest size

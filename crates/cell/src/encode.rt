@@ -11,7 +11,9 @@ ghost use Rattle.varint.specs.Leb.{lebBytes};
 ghost use Rattle.varint.specs.Zigzag.{zigzag};
 ghost use Rattle.cell.specs.Block.{bitmapBytes};
 ghost use Rattle.cell.specs.Written.{blockBytes, blocksBytes};
-ghost use Rattle.cell.specs.Listing.{wordList, used, held, payload, usedAll, heldAll, kindBit, kindBits, kindMap};
+ghost use Rattle.cell.specs.ValueList.{items};
+ghost use Rattle.utf8.specs.WellFormed.{checkText};
+ghost use Rattle.cell.specs.Listing.{wordList, used, held, payload, blockLen, usedAll, heldAll, kindBit, kindBits, kindMap, judged, Judged, blocksLen, Good, Measures};
 
 // The value tags, which are the kinds of a value list; a null's kind is 255, and 5 stands for a `Value::Null` inside a value.
 const INTEGER: u8 = 0;
@@ -19,6 +21,7 @@ const REAL: u8 = 1;
 const TEXT: u8 = 2;
 const BOOL: u8 = 3;
 const VECTOR: u8 = 4;
+const INNER_NULL: u8 = 5;
 const NULL: u8 = 255;
 
 // Word i of the words that are lent as bytes.
@@ -53,6 +56,126 @@ fn zigzag_bits(bits: u64) -> u64
     } else {
         !doubled
     }
+}
+
+// ---- the first reading: each column is judged and measured
+
+// The bytes of a varint; one is the common case.
+fn varint_len(value: u64) -> usize
+    ensures { λ r. ⌜ (r ≡ length (lebBytes value)) × (r ≤ 10) ⌝ }
+{
+    if value < 128 {
+        return 1;
+    }
+    varint::u64_len(value)
+}
+
+fn block_len(kind: u8, word: u64) -> usize
+    requires { ⌜ used kind word ≤ 16777216 ⌝ }
+    ensures { λ r. ⌜ (r ≡ blockLen kind word) × (r ≤ 11 + used kind word) ⌝ }
+{
+    if VECTOR < kind {
+        return 0;
+    }
+    if kind == INTEGER {
+        return 1 + varint_len(zigzag_bits(word));
+    }
+    if kind == REAL {
+        return 9;
+    }
+    if kind == BOOL {
+        return 2;
+    }
+    1 + varint_len(word) + data_used(kind, word)
+}
+
+// 8, or 0 where the bytes are a text.
+fn text_refusal(s: &[u8]) -> u8
+    ensures { λ r. ⌜ judged r tt ≡ checkText (now (s .entry)) ⌝ }
+{
+    match utf8::check(s) {
+        utf8::Checked::Text => 0,
+        utf8::Checked::Refused(_) => 8,
+    }
+}
+
+// A column's refusal, or 0. Its data starts at from.
+fn column_refusal(kind: u8, word: u64, data: &[u8], from: usize) -> u8
+    requires { ⌜ from ≤ length (now «data») ⌝ }
+    ensures { λ r. ⌜ Judged kind word (drop from (now («data» .entry))) r ⌝ }
+{
+    if kind == INTEGER {
+        return 0;
+    }
+    if kind == REAL {
+        return 0;
+    }
+    if kind == TEXT {
+        if data.len() - from < word as usize {
+            return 15;
+        }
+        let to = from + word as usize;
+        return text_refusal(&data[from..to]);
+    }
+    if kind == BOOL {
+        if 1 < word {
+            return 15;
+        }
+        return 0;
+    }
+    if kind == VECTOR {
+        if (data.len() - from) / 4 < word as usize {
+            return 15;
+        }
+        return 0;
+    }
+    if kind == INNER_NULL {
+        return 27;
+    }
+    if kind == NULL {
+        if word == 0 {
+            return 0;
+        }
+        return 15;
+    }
+    15
+}
+
+// A refusal's number, 0 where there is none; and a length.
+struct Measured {
+    refusal: u8,
+    bytes: usize,
+}
+
+// The value blocks of all columns.
+fn measure_blocks(kinds: &[u8], words: &[u8], data: &[u8]) -> Measured
+    requires { ⌜ length (now kinds) ≡ length (now words) / 8 ⌝ }
+    requires { ⌜ length (now kinds) ≤ 65536 ⌝ }
+    requires { ⌜ length (now «data») ≤ 16777216 ⌝ }
+    ensures { λ r. ⌜ judged (r .refusal) (r .bytes) ≡ blocksLen (items (now (kinds .entry)) (wordList (now (words .entry))) (now («data» .entry))) ⌝ }
+    ensures { λ r. ⌜ r .bytes ≤ 17498112 ⌝ }
+{
+    let mut i: usize = 0;
+    let mut from: usize = 0;
+    let mut bytes: usize = 0;
+    while i < kinds.len() {
+        let kind = kinds[i];
+        let word = word_at(words, i);
+        let refusal = column_refusal(kind, word, data, from);
+        if refusal != 0 {
+            return Measured { refusal, bytes: 0 };
+        }
+        bytes += block_len(kind, word);
+        from += data_used(kind, word);
+        i += 1;
+    }
+    if from < data.len() {
+        return Measured {
+            refusal: 15,
+            bytes: 0,
+        };
+    }
+    Measured { refusal: 0, bytes }
 }
 
 // ---- writers: each writes its bytes from the start of an output that has room, and answers how many
