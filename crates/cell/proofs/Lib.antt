@@ -5,3 +5,5 @@ pub mod Nulls
 pub mod Putting
 pub mod Judging
 pub mod Measuring
+pub mod Listed
+pub mod Writing

@@ -117,7 +117,7 @@ module _ {kinds words rest : List ℕ} {i from bytes : ℕ} (w : Measuring kinds
             let g : gives (held k word (drop from rest), drop (used k word) (drop from rest)) ≡ item k word (drop from rest) = rw (eq-eqb r 0 z) at (j .same) in
             let b : length (blockBytes (held k word (drop from rest))) ≡ n = block-length k word (drop from rest) (j .fits z) ∙ sym f in
             let t : added bytes (andThen (items (drop (i + 1) kinds) (drop (i + 1) words) (drop (used k word) (drop from rest))) (λ cs. gives (held k word (drop from rest) ∷ cs)))
-                ≡ blocksLen (items kinds words rest)
+            ≡ blocksLen (items kinds words rest)
             = rw (← g) at turn in
             record {
               even = w .even;
@@ -125,7 +125,7 @@ module _ {kinds words rest : List ℕ} {i from bytes : ℕ} (w : Measuring kinds
               within = omega (arith, measuring-used);
               most = omega (arith, w .most);
               same = rw (d, ← drop-drop (used k word) from rest, ← b)
-              (sym (more-added bytes (held k word (drop from rest)) (items (drop (i + 1) kinds) (drop (i + 1) words) (drop (used k word) (drop from rest)))) ∙ t);
+                  (sym (more-added bytes (held k word (drop from rest)) (items (drop (i + 1) kinds) (drop (i + 1) words) (drop (used k word) (drop from rest)))) ∙ t);
             }
 
 pub ruleset measuring = (

@@ -105,4 +105,8 @@ pub ruleset placing = (
   set-first,
   then-over,
   length-over,
-  storing-start, storing-inside, storing-more, storing-done)
+  storing-start,
+  storing-inside,
+  storing-more,
+  storing-done,
+)

@@ -14,7 +14,7 @@ use Rattle.varint.specs.Zigzag.{zigzag}
 use Rattle.cell.specs.Content.{Content, none, whole, float, truth, letters, floats}
 use Rattle.cell.specs.ValueList.{item, wordsOf, valueList}
 use Rattle.cell.specs.Block.{bitmapBytes}
-use Rattle.cell.specs.Written.{blocksBytes}
+use Rattle.cell.specs.Written.{bitmap, blocksBytes}
 
 -- the words that are lent as bytes
 unfoldable pub wordList : List ℕ → List ℕ
@@ -87,9 +87,21 @@ unfoldable pub blocksLen : Answer (List Content) → Answer ℕ
 blocksLen (gives cs) = gives (length (blocksBytes cs))
 blocksLen (refuses k) = refuses k
 
--- ---- a good list: what it holds, and the length of the body that it makes with a rowid's ZigZag number
+-- ---- the body, by a rowid's ZigZag number: kind byte, rowid and count; then the bitmap and the value blocks
+unfoldable pub headOf : ℕ → ℕ → List ℕ
+headOf id count = 1 ∷ (lebBytes id ++ lebBytes count)
+
+unfoldable pub columnsOf : List ℕ → List ℕ → List ℕ → List ℕ
+columnsOf kinds words rest = kindMap (bitmapBytes (length kinds)) kinds ++ blocksBytes (heldAll kinds (wordList words) rest)
+
+unfoldable pub bodyOf : ℕ → List ℕ → List ℕ → List ℕ → List ℕ
+bodyOf id kinds words rest = headOf id (length kinds) ++ columnsOf kinds words rest
+
+-- ---- a good list: what it holds, and the length of the body
 pub record Good (id : ℕ) (kinds words rest : List ℕ) (size : ℕ) : Type 0 where
   pub listed : valueList kinds words rest ≡ gives (heldAll kinds (wordList words) rest)
+  pub count : length (heldAll kinds (wordList words) rest) ≡ length kinds
+  pub nulls : bitmap (bitmapBytes (length kinds)) (heldAll kinds (wordList words) rest) ≡ kindMap (bitmapBytes (length kinds)) kinds
   pub even : length kinds ≡ length words / 8
   pub columns : length kinds ≤ 65536
   pub fits : usedAll kinds (wordList words) ≤ length rest

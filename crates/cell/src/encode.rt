@@ -6,23 +6,37 @@ ghost use lib.Dec.{eqb};
 ghost use lib.ListN.{length, take, drop, getD};
 ghost use mir.Syntax.{w64};
 ghost use mir.Val.{toZ};
-ghost use Rattle.paper.specs.Answer.{over, pick};
+ghost use Rattle.paper.specs.Answer.{over, pick, put, sizeOf};
 ghost use Rattle.varint.specs.Leb.{lebBytes};
 ghost use Rattle.varint.specs.Zigzag.{zigzag};
+ghost use Rattle.varint.specs.Paper.{paperWrote};
 ghost use Rattle.cell.specs.Block.{bitmapBytes};
-ghost use Rattle.cell.specs.Written.{blockBytes, blocksBytes};
+ghost use Rattle.cell.specs.Written.{blockBytes, blocksBytes, encoded, writeCell};
 ghost use Rattle.cell.specs.ValueList.{items};
 ghost use Rattle.utf8.specs.WellFormed.{checkText};
-ghost use Rattle.cell.specs.Listing.{wordList, used, held, payload, blockLen, usedAll, heldAll, kindBit, kindBits, kindMap, judged, Judged, blocksLen, Good, Measures};
+ghost use Rattle.cell.specs.Listing.{wordList, used, held, payload, blockLen, usedAll, heldAll, kindBit, kindBits, kindMap, judged, Judged, blocksLen, headOf, columnsOf, bodyOf, Good, Measures};
+
+const KIND_LOCAL: u8 = 1;
 
 // The value tags, which are the kinds of a value list; a null's kind is 255, and 5 stands for a `Value::Null` inside a value.
 const INTEGER: u8 = 0;
+
 const REAL: u8 = 1;
+
 const TEXT: u8 = 2;
+
 const BOOL: u8 = 3;
+
 const VECTOR: u8 = 4;
+
 const INNER_NULL: u8 = 5;
+
 const NULL: u8 = 255;
+
+// The largest value list: columns, and bytes of data.
+const MAX_COLUMNS: usize = 65536;
+
+const MAX_DATA: usize = 16777216;
 
 // Word i of the words that are lent as bytes.
 fn word_at(words: &[u8], i: usize) -> u64
@@ -178,6 +192,55 @@ fn measure_blocks(kinds: &[u8], words: &[u8], data: &[u8]) -> Measured
     Measured { refusal: 0, bytes }
 }
 
+// The whole list, and the length of the body that it makes with the rowid's ZigZag number.
+fn measure(id: u64, kinds: &[u8], words: &[u8], data: &[u8]) -> Measured
+    ensures { λ r. ⌜ Measures id (now (kinds .entry)) (now (words .entry)) (now («data» .entry)) (r .refusal) (r .bytes) ⌝ }
+{
+    if 0 < words.len() % 8 {
+        return Measured {
+            refusal: 25,
+            bytes: 0,
+        };
+    }
+    if MAX_COLUMNS < kinds.len() {
+        return Measured {
+            refusal: 25,
+            bytes: 0,
+        };
+    }
+    if MAX_COLUMNS < words.len() / 8 {
+        return Measured {
+            refusal: 25,
+            bytes: 0,
+        };
+    }
+    if MAX_DATA < data.len() {
+        return Measured {
+            refusal: 25,
+            bytes: 0,
+        };
+    }
+    if kinds.len() != words.len() / 8 {
+        return Measured {
+            refusal: 15,
+            bytes: 0,
+        };
+    }
+    let blocks = measure_blocks(kinds, words, data);
+    if blocks.refusal != 0 {
+        return Measured {
+            refusal: blocks.refusal,
+            bytes: 0,
+        };
+    }
+    let head = 1 + (varint_len(id) + varint_len(kinds.len() as u64));
+    let columns = bitmap_bytes(kinds.len()) + blocks.bytes;
+    Measured {
+        refusal: 0,
+        bytes: head + columns,
+    }
+}
+
 // ---- writers: each writes its bytes from the start of an output that has room, and answers how many
 
 fn put_byte(out: &mut [u8], byte: u8)
@@ -323,7 +386,7 @@ fn null_byte(kinds: &[u8], b: usize) -> u8
 
 fn bitmap_bytes(columns: usize) -> usize
     requires { ⌜ columns ≤ 65536 ⌝ }
-    ensures { λ r. ⌜ r ≡ bitmapBytes columns ⌝ }
+    ensures { λ r. ⌜ (r ≡ bitmapBytes columns) × (r ≤ 8192) ⌝ }
 {
     (columns + 7) / 8
 }
@@ -341,4 +404,88 @@ fn put_bitmap(out: &mut [u8], kinds: &[u8]) -> usize
         b += 1;
     }
     size
+}
+
+// ---- the entry
+
+// Two varints.
+fn put_pair(out: &mut [u8], first: u64, second: u64) -> usize
+    requires { ⌜ length (lebBytes first) + length (lebBytes second) ≤ length (now out) ⌝ }
+    ensures { λ r. ⌜ r ≡ length (lebBytes first) + length (lebBytes second) ⌝ }
+    ensures { λ _. ⌜ now (out .exit) ≡ over (now (out .entry)) (lebBytes first ++ lebBytes second) ⌝ }
+{
+    let n = put_varint(out, first);
+    n + put_varint(&mut out[n..], second)
+}
+
+// The kind byte, the rowid's ZigZag number, and the column count.
+fn put_head(out: &mut [u8], id: u64, columns: u64) -> usize
+    requires { ⌜ 1 + (length (lebBytes id) + length (lebBytes columns)) ≤ length (now out) ⌝ }
+    ensures { λ r. ⌜ r ≡ 1 + (length (lebBytes id) + length (lebBytes columns)) ⌝ }
+    ensures { λ _. ⌜ now (out .exit) ≡ over (now (out .entry)) (headOf id columns) ⌝ }
+{
+    put_byte(out, KIND_LOCAL);
+    1 + put_pair(&mut out[1..], id, columns)
+}
+
+// The bitmap and the value blocks.
+fn put_columns(out: &mut [u8], kinds: &[u8], words: &[u8], data: &[u8])
+    requires { ⌜ (length (now kinds) ≡ length (now words) / 8) × (length (now kinds) ≤ 65536) ⌝ }
+    requires { ⌜ usedAll (now kinds) (wordList (now words)) ≤ length (now «data») ⌝ }
+    requires { ⌜ bitmapBytes (length (now kinds)) + length (blocksBytes (heldAll (now kinds) (wordList (now words)) (now «data»))) ≤ length (now out) ⌝ }
+    ensures { λ _. ⌜ now (out .exit) ≡ over (now (out .entry)) (columnsOf (now (kinds .entry)) (now (words .entry)) (now («data» .entry))) ⌝ }
+{
+    let n = put_bitmap(out, kinds);
+    put_blocks(&mut out[n..], kinds, words, data);
+}
+
+// The body of a good list.
+fn put_body(out: &mut [u8], size: usize, id: u64, kinds: &[u8], words: &[u8], data: &[u8])
+    requires { ⌜ Good id (now kinds) (now words) (now «data») size ⌝ }
+    requires { ⌜ size ≤ length (now out) ⌝ }
+    ensures { λ _. ⌜ now (out .exit) ≡ over (now (out .entry)) (bodyOf id (now (kinds .entry)) (now (words .entry)) (now («data» .entry))) ⌝ }
+{
+    let n = put_head(out, id, kinds.len() as u64);
+    put_columns(&mut out[n..], kinds, words, data);
+}
+
+// The body's length, and the body.
+fn put_entry(out: &mut [u8], size: usize, id: u64, kinds: &[u8], words: &[u8], data: &[u8])
+    requires { ⌜ Good id (now kinds) (now words) (now «data») size ⌝ }
+    requires { ⌜ length (lebBytes size) + size ≤ length (now out) ⌝ }
+    ensures { λ _. ⌜ now (out .exit) ≡ over (now (out .entry)) (lebBytes size ++ bodyOf id (now (kinds .entry)) (now (words .entry)) (now («data» .entry))) ⌝ }
+{
+    let n = put_varint(out, size as u64);
+    put_body(&mut out[n..], size, id, kinds, words, data);
+}
+
+// Writes the entry of a value list: its kinds, its words of eight bytes each, and its data. A refused write changes no byte.
+pub fn encode(rowid: i64, kinds: &[u8], words: &[u8], data: &[u8], out: &mut [u8]) -> varint::Wrote
+    ensures { λ r. ⌜ paperWrote r ≡ sizeOf (writeCell rowid (now (kinds .entry)) (now (words .entry)) (now («data» .entry)) (length (now (out .entry)))) ⌝ }
+    ensures { λ _. ⌜ now (out .exit) ≡ put (now (out .entry)) (writeCell rowid (now (kinds .entry)) (now (words .entry)) (now («data» .entry)) (length (now (out .entry)))) ⌝ }
+{
+    let id = varint::zigzag_encode(rowid);
+    let body = measure(id, kinds, words, data);
+    if body.refusal != 0 {
+        return varint::Wrote::Refused(body.refusal);
+    }
+    let size = body.bytes;
+    let bytes = varint_len(size as u64) + size;
+    if out.len() < bytes {
+        return varint::Wrote::Refused(16);
+    }
+    put_entry(out, size, id, kinds, words, data);
+    varint::Wrote::Bytes(bytes)
+}
+
+// The length that `encode` would write.
+pub fn encoded_len(rowid: i64, kinds: &[u8], words: &[u8], data: &[u8]) -> varint::Wrote
+    ensures { λ r. ⌜ paperWrote r ≡ sizeOf (encoded rowid (now (kinds .entry)) (now (words .entry)) (now («data» .entry))) ⌝ }
+{
+    let body = measure(varint::zigzag_encode(rowid), kinds, words, data);
+    if body.refusal != 0 {
+        return varint::Wrote::Refused(body.refusal);
+    }
+    let size = body.bytes;
+    varint::Wrote::Bytes(varint_len(size as u64) + size)
 }
