@@ -15,10 +15,8 @@ use Rattle.paper.specs.Answer.{Answer, gives, refuses, pick, over, put, sizeOf}
 use Rattle.paper.proofs.Laws.{gives-one, gives-refuses}
 use Rattle.varint.specs.Leb.{lebBytes, lenU64, writeU64}
 use Rattle.varint.specs.Zigzag.{zigzag}
-use Rattle.varint.specs.Paper.{paperWrote}
-use Rattle.varint.specs.declared.Wrote.{Wrote}
-use Rattle.varint.specs.declared.Wrote.the-variants as W
 use Rattle.varint.proofs.Limits.{groups-last, groups-some}
+use Rattle.varint.proofs.Writing.{Filling, filling-start, filling-inside, filling-more, filling-count, filling-done}
 use Rattle.cell.proofs.Placing.{placing, set-first}
 
 -- ---- ZigZag: the bits doubled modulo 2 ^ 64, complemented from 2 ^ 63 on
@@ -42,34 +40,19 @@ pub leb-byte : (v : ℕ) → v < 128 → lebBytes v ≡ v ∷ []
 unfolding lebBytes
 leb-byte v h = groups-last 9 v h
 
-module _ (value : ℕ) (out : List ℕ) (room : length (lebBytes value) ≤ length out) where
-  pub varint-inside : 0 < length out
-  varint-inside = omega (arith, leb-some value)
+-- the loop is `varint::write_groups`, whose laws serve
+module _ {value : ℕ} {out : List ℕ} (room : length (lebBytes value) ≤ length out) where
+  pub varint-start : Fits w64 value → Filling out value out value 0
+  unfolding lenU64
+  varint-start f = filling-start (f .fits) room
 
-  pub byte-size : value < 128 → 1 ≡ length (lebBytes value)
-  byte-size h = rw (leb-byte value h)
+module _ {out₀ out : List ℕ} {value v i : ℕ} (w : Filling out₀ value out v i) (h : v < 128) where
+  pub varint-size : i + 1 ≡ length (lebBytes value)
+  unfolding lenU64
+  varint-size = filling-count w h
 
-  pub byte-output : value < 128 → set out 0 value ≡ over out (lebBytes value)
-  byte-output h = rw (leb-byte value h) (set-first out value varint-inside)
+  pub varint-output : set out i v ≡ over out₀ (lebBytes value)
+  unfolding lenU64 writeU64 pick put
+  varint-output = rw (le-ltb (length out₀) (length (lebBytes value)) (w .room)) at (filling-done w h)
 
-  fits : writeU64 value (length out) ≡ gives (lebBytes value)
-  unfolding writeU64 lenU64 pick
-  fits = rw (le-ltb (length out) (length (lebBytes value)) room)
-
-  pub varint-output : {new : List ℕ} → new ≡ put out (writeU64 value (length out)) → new ≡ over out (lebBytes value)
-  unfolding put
-  varint-output e = rw fits at e
-
-  wrote : (r : Wrote) → paperWrote r ≡ sizeOf (writeU64 value (length out)) → paperWrote r ≡ gives (length (lebBytes value))
-  unfolding sizeOf
-  wrote r e = rw fits at e
-
-  pub varint-size : {r : Wrote} {n : ℕ} → paperWrote r ≡ sizeOf (writeU64 value (length out)) → r ≡ W.Bytes n → n ≡ length (lebBytes value)
-  unfolding paperWrote
-  varint-size {r} e h = gives-one (rw h at (wrote r e))
-
-  pub varint-never : {r : Wrote} {k n : ℕ} → paperWrote r ≡ sizeOf (writeU64 value (length out)) → r ≡ W.Refused k → n ≡ length (lebBytes value)
-  unfolding paperWrote
-  varint-never {r} e h = absurd (gives-refuses (sym (rw h at (wrote r e))))
-
-pub ruleset numbers = (placing, doubled-plus, doubled-minus, varint-inside, byte-size, byte-output, varint-output, varint-size, varint-never)
+pub ruleset numbers = (placing, filling-inside, filling-more, doubled-plus, doubled-minus, varint-start, varint-size, varint-output)

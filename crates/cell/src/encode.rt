@@ -250,20 +250,21 @@ fn put_byte(out: &mut [u8], byte: u8)
     out[0] = byte;
 }
 
-// One byte is the common case.
+// As `varint::write_u64`, which asks for the room again and answers an enum.
 fn put_varint(out: &mut [u8], value: u64) -> usize
     requires { ⌜ length (lebBytes value) ≤ length (now out) ⌝ }
     ensures { λ r. ⌜ r ≡ length (lebBytes value) ⌝ }
     ensures { λ _. ⌜ now (out .exit) ≡ over (now (out .entry)) (lebBytes value) ⌝ }
 {
-    if value < 128 {
-        out[0] = value as u8;
-        return 1;
+    let mut v = value;
+    let mut i: usize = 0;
+    while 128 <= v {
+        out[i] = (128 + v % 128) as u8;
+        v = v / 128;
+        i += 1;
     }
-    match varint::write_u64(out, value) {
-        varint::Wrote::Bytes(n) => n,
-        varint::Wrote::Refused(_) => 0,
-    }
+    out[i] = v as u8;
+    i + 1
 }
 
 fn copy(out: &mut [u8], src: &[u8])

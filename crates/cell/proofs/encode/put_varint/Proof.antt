@@ -1,4 +1,5 @@
 -- `cell::encode::put_varint` meets its contract. Assumes nothing.
+use Rattle.varint.proofs.Writing.{Filling}
 use native.Mathlib.Omega.{arith}
 use Rattle.cell.proofs.Numbers.{numbers}
 use Rattle.cell.proofs.encode.put_varint.Statement.{statement}
@@ -8,6 +9,7 @@ pub put-varint-spec : {M : Type 1} → statement M
 put-varint-spec =
     tie.close
     (tie.spec
-    (λ c. search numbers) (λ c. search numbers) (λ c. search numbers) (λ c. search numbers) (λ c κs. search numbers)
+    (λ out₀ value v₀ i₀ out v i. Filling out₀ value out v i) (λ out₀ value v₀ i₀ out v i. v) (λ c. search numbers)
+    (λ c. search numbers) (λ c. search numbers) (λ c. search numbers) (λ c. search numbers) (λ c. search numbers)
     (λ c. search numbers) (λ c. search numbers) (λ c. search numbers) (λ c. search numbers) (λ c. search numbers)
     (λ c. search numbers))
