@@ -1,17 +1,14 @@
 -- One column of a good value list: the data that it takes, and its value block.
 -- Assumes nothing.
 use mathlib.Core.Path.{_≡_, refl, sym, _∙_, ap}
-use mathlib.Core.Bool.{Bool, true, false}
 use mathlib.Core.List.{List, [], _∷_, _++_}
 use Prim.Native.Nat.{ℕ, zero, suc, _+_, _-_, _*_, _/_, _^_, _≤_, _<_}
 use native.Mathlib.Omega.{arith}
-use lib.Dec.{ltb, eqb}
+use lib.Dec.{eqb}
 use lib.ListN.{length, take, drop, getD, set, length-append, length-drop}
 use lib.Seq.{length-take-le, drop-drop}
 use mir.Syntax.{w64}
 use mir.Val.{Fits, toZ}
-use borrow.Author.Needs.{needs}
-use borrow.Author.Tests.{eq-eqb, ne-eqb, lt-ltb, le-ltb}
 use borrow.Rule.Slice.PartMut.{putMid}
 use Rattle.paper.specs.Answer.{over, pick}
 use Rattle.paper.proofs.Laws.{paper}
@@ -19,11 +16,11 @@ use Rattle.field.specs.Field.{le, bytes}
 use Rattle.field.proofs.Storing.{length-bytes}
 use Rattle.varint.specs.Leb.{lebBytes}
 use Rattle.varint.specs.Zigzag.{zigzag}
-use Rattle.cell.specs.Content.{Content, none}
+use Rattle.cell.specs.Content.{none}
 use Rattle.cell.specs.Written.{blockBytes}
 use Rattle.cell.specs.ValueList.{wordsOf}
-use Rattle.cell.specs.Listing.{wordList, used, held, payload, blockLen}
-use Rattle.cell.proofs.Placing.{placing, set-first, rest-all, length-over, then-over}
+use Rattle.cell.specs.Listing.{wordList, used, held, payload}
+use Rattle.cell.proofs.Placing.{set-first, rest-all, length-over, then-over}
 use Rattle.cell.proofs.Numbers.{numbers}
 
 -- ---- data

@@ -2,19 +2,17 @@
 -- Assumes nothing.
 use mathlib.Core.Path.{_≡_, refl, sym, _∙_, ap}
 use mathlib.Core.Bool.{Bool, true, false}
-use mathlib.Core.List.{List, [], _∷_, _++_}
-use Prim.Native.Nat.{ℕ, zero, suc, _+_, _-_, _*_, _/_, _^_, _≤_, _<_}
+use mathlib.Core.List.{List}
+use Prim.Native.Nat.{ℕ, zero, suc, _+_, _-_, _*_, _/_, _≤_, _<_}
 use native.Mathlib.Omega.{arith}
-use lib.Dec.{ltb, eqb}
+use lib.Dec.{eqb}
 use lib.ListN.{length, take, drop, length-append, length-drop}
 use lib.Seq.{length-take-le}
 use mir.Syntax.{w64}
 use mir.Val.{toZ}
-use borrow.Author.Needs.{needs}
 use borrow.Author.Tests.{lt-ltb, le-ltb, ne-eqb}
 use Rattle.paper.specs.Answer.{Answer, gives, refuses, andThen, pick}
-use Rattle.paper.proofs.Laws.{paper, gives-one, gives-refuses, refuses-one}
-use Rattle.field.specs.Field.{bytes}
+use Rattle.paper.proofs.Laws.{paper, gives-refuses}
 use Rattle.field.proofs.Storing.{length-bytes}
 use Rattle.varint.specs.Leb.{lebBytes, lenU64}
 use Rattle.varint.specs.Zigzag.{zigzag}
@@ -26,9 +24,9 @@ use Rattle.utf8.specs.declared.Checked.the-variants as C
 use Rattle.cell.specs.Content.{Content, letters}
 use Rattle.cell.specs.Written.{blockBytes}
 use Rattle.cell.specs.ValueList.{item}
-use Rattle.cell.specs.Listing.{used, held, payload, blockLen, judged, Judged}
+use Rattle.cell.specs.Listing.{used, held, blockLen, judged, Judged}
 use Rattle.cell.proofs.Numbers.{leb-byte}
-use Rattle.cell.proofs.Blocks.{blocks, held-none, held-block}
+use Rattle.cell.proofs.Blocks.{blocks, held-none}
 
 -- ---- lengths
 pub leb-most : (v : ℕ) → length (lebBytes v) ≤ 10

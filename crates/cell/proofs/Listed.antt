@@ -1,17 +1,17 @@
 -- A value list that is accepted says, column by column, what `held` says.
 -- Assumes nothing.
-use mathlib.Core.Path.{_≡_, refl, sym, _∙_, ap}
+use mathlib.Core.Path.{_≡_, refl, sym, ap}
 use mathlib.Core.Bool.{Bool, true, false}
-use mathlib.Core.List.{List, [], _∷_, _++_}
-use Prim.Native.Nat.{ℕ, zero, suc, _+_, _-_, _*_, _/_, _^_, _≤_, _<_}
+use mathlib.Core.List.{List, [], _∷_}
+use Prim.Native.Nat.{ℕ, zero, suc, _-_, _*_, _/_, _≤_, _<_}
 use native.Mathlib.Omega.{arith}
 use lib.Dec.{ltb, eqb}
 use lib.ListN.{length, take, drop, length-drop}
 use borrow.Author.Tests.{ltb-false, eqb-true, ne-eqb}
 use Rattle.paper.specs.Answer.{Answer, gives, refuses, andThen, pick}
-use Rattle.paper.proofs.Laws.{gives-one, gives-refuses, first, second}
+use Rattle.paper.proofs.Laws.{gives-one, gives-refuses}
 use Rattle.utf8.specs.WellFormed.{checkText}
-use Rattle.cell.specs.Content.{Content, none, whole, float, truth, letters, floats}
+use Rattle.cell.specs.Content.{Content, none, truth, letters, floats}
 use Rattle.cell.specs.ValueList.{item, items}
 use Rattle.cell.specs.Written.{nullBit, nullBits, bitmap}
 use Rattle.cell.specs.Listing.{used, held, usedAll, heldAll, kindBit, kindBits, kindMap}

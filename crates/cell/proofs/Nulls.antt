@@ -2,7 +2,7 @@
 -- Assumes nothing.
 use mathlib.Core.Path.{_≡_, refl, sym, _∙_, ap}
 use mathlib.Core.Bool.{Bool, true, false}
-use mathlib.Core.List.{List, [], _∷_, _++_}
+use mathlib.Core.List.{List, [], _∷_}
 use Prim.Native.Nat.{ℕ, zero, suc, _+_, _-_, _*_, _/_, _^_, _≤_, _<_}
 use native.Mathlib.Nat.{pow-suc}
 use native.Mathlib.Omega.{arith}
@@ -12,7 +12,6 @@ use lib.Pow.{pow-mono}
 use lib.Seq.{drop-cons, drop-drop, drop-length, take-all}
 use mir.Syntax.{w8}
 use mir.Val.{Fits}
-use borrow.Author.Needs.{needs}
 use Rattle.paper.specs.Answer.{over, pick}
 use Rattle.paper.proofs.Laws.{paper}
 use Rattle.cell.specs.Block.{bitmapBytes}

@@ -1,11 +1,9 @@
 -- The entry of a good value list, and the calls.
 -- Assumes nothing.
 use mathlib.Core.Path.{_≡_, refl, sym, _∙_, ap}
-use mathlib.Core.Bool.{Bool, true, false}
 use mathlib.Core.List.{List, [], _∷_, _++_, append-assoc}
-use Prim.Native.Nat.{ℕ, zero, suc, _+_, _-_, _*_, _/_, _%_, _^_, _≤_, _<_}
+use Prim.Native.Nat.{ℕ, _+_, _-_, _/_, _%_, _≤_, _<_}
 use native.Mathlib.Omega.{arith}
-use lib.Dec.{ltb, eqb}
 use lib.IntN.{ℤ}
 use lib.ListN.{length, take, drop, length-append}
 use mir.Syntax.{w64}
@@ -21,14 +19,14 @@ use Rattle.varint.specs.Paper.{paperWrote}
 use Rattle.varint.specs.declared.Wrote.the-variants as W
 use Rattle.cell.specs.Block.{bitmapBytes}
 use Rattle.cell.specs.Content.{Content}
-use Rattle.cell.specs.ValueList.{items, valueList, wordsOf}
-use Rattle.cell.specs.Written.{bitmap, blocksBytes, bodyBytes, entryBytes, encoded, writeCell}
-use Rattle.cell.specs.Listing.{wordList, usedAll, heldAll, kindMap, judged, blocksLen, headOf, columnsOf, bodyOf, Good, Measures}
+use Rattle.cell.specs.ValueList.{items, valueList}
+use Rattle.cell.specs.Written.{blocksBytes, bodyBytes, entryBytes, encoded, writeCell}
+use Rattle.cell.specs.Listing.{wordList, heldAll, kindMap, judged, blocksLen, headOf, columnsOf, bodyOf, Good, Measures}
 use Rattle.cell.proofs.Placing.{then-over}
 use Rattle.cell.proofs.Nulls.{nulls, map-length}
 use Rattle.cell.proofs.Putting.{putting}
 use Rattle.cell.proofs.Measuring.{measuring}
-use Rattle.cell.proofs.Listed.{Listed, items-listed, marked-length, marked-map}
+use Rattle.cell.proofs.Listed.{items-listed, marked-length, marked-map}
 
 -- ---- the list as a whole
 module _ (id : ℕ) (kinds words rest : List ℕ) where

@@ -1,5 +1,4 @@
 -- `cell::encode::bitmap_bytes` meets its contract. Assumes nothing.
-use native.Mathlib.Omega.{arith}
 use Rattle.cell.proofs.Nulls.{nulls}
 use Rattle.cell.proofs.encode.bitmap_bytes.Statement.{statement}
 use Rattle.cell.proofs.encode.bitmap_bytes.Tie as tie

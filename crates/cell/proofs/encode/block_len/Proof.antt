@@ -1,5 +1,4 @@
 -- `cell::encode::block_len` meets its contract. Assumes nothing.
-use native.Mathlib.Omega.{arith}
 use Rattle.cell.proofs.Judging.{judging}
 use Rattle.cell.proofs.encode.block_len.Statement.{statement}
 use Rattle.cell.proofs.encode.block_len.Tie as tie

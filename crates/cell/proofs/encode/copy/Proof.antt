@@ -2,7 +2,6 @@
 use Prim.Native.Nat.{_-_}
 use lib.ListN.{length}
 use Rattle.cell.proofs.Placing.{Storing}
-use native.Mathlib.Omega.{arith}
 use Rattle.cell.proofs.Numbers.{numbers}
 use Rattle.cell.proofs.encode.copy.Statement.{statement}
 use Rattle.cell.proofs.encode.copy.Tie as tie

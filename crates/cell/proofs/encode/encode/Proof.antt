@@ -1,5 +1,4 @@
 -- `cell::encode::encode` meets its contract. Assumes nothing.
-use native.Mathlib.Omega.{arith}
 use Rattle.cell.proofs.Writing.{writing}
 use Rattle.cell.proofs.encode.encode.Statement.{statement}
 use Rattle.cell.proofs.encode.encode.Tie as tie

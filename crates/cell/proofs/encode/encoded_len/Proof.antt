@@ -1,5 +1,4 @@
 -- `cell::encode::encoded_len` meets its contract. Assumes nothing.
-use native.Mathlib.Omega.{arith}
 use Rattle.cell.proofs.Writing.{writing}
 use Rattle.cell.proofs.encode.encoded_len.Statement.{statement}
 use Rattle.cell.proofs.encode.encoded_len.Tie as tie

@@ -1,5 +1,4 @@
 -- `cell::encode::measure` meets its contract. Assumes nothing.
-use native.Mathlib.Omega.{arith}
 use Rattle.cell.proofs.Writing.{writing}
 use Rattle.cell.proofs.encode.measure.Statement.{statement}
 use Rattle.cell.proofs.encode.measure.Tie as tie

@@ -3,7 +3,6 @@ use Prim.Native.Nat.{_-_}
 use lib.ListN.{length}
 use Rattle.cell.specs.Listing.{wordList}
 use Rattle.cell.proofs.Measuring.{Measuring}
-use native.Mathlib.Omega.{arith}
 use Rattle.cell.proofs.Measuring.{measuring}
 use Rattle.cell.proofs.encode.measure_blocks.Statement.{statement}
 use Rattle.cell.proofs.encode.measure_blocks.Tie as tie

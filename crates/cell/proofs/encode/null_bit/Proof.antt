@@ -1,5 +1,4 @@
 -- `cell::encode::null_bit` meets its contract. Assumes nothing.
-use native.Mathlib.Omega.{arith}
 use Rattle.cell.proofs.Nulls.{nulls}
 use Rattle.cell.proofs.encode.null_bit.Statement.{statement}
 use Rattle.cell.proofs.encode.null_bit.Tie as tie

@@ -1,6 +1,5 @@
 -- `cell::encode::null_bits` meets its contract. Assumes nothing.
 use Rattle.cell.proofs.Nulls.{Nulls}
-use native.Mathlib.Omega.{arith}
 use Rattle.cell.proofs.Nulls.{nulls}
 use Rattle.cell.proofs.encode.null_bits.Statement.{statement}
 use Rattle.cell.proofs.encode.null_bits.Tie as tie

@@ -1,7 +1,6 @@
 -- `cell::encode::put_bitmap` meets its contract. Assumes nothing.
 use Prim.Native.Nat.{_-_}
 use Rattle.cell.proofs.Nulls.{Mapping}
-use native.Mathlib.Omega.{arith}
 use Rattle.cell.proofs.Nulls.{nulls}
 use Rattle.cell.proofs.encode.put_bitmap.Statement.{statement}
 use Rattle.cell.proofs.encode.put_bitmap.Tie as tie

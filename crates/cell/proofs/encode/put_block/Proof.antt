@@ -1,5 +1,4 @@
 -- `cell::encode::put_block` meets its contract. Assumes nothing.
-use native.Mathlib.Omega.{arith}
 use Rattle.cell.proofs.Blocks.{blocks}
 use Rattle.cell.proofs.encode.put_block.Statement.{statement}
 use Rattle.cell.proofs.encode.put_block.Tie as tie

@@ -3,7 +3,6 @@ use Prim.Native.Nat.{_-_}
 use lib.ListN.{length}
 use Rattle.cell.specs.Listing.{wordList}
 use Rattle.cell.proofs.Putting.{Putting}
-use native.Mathlib.Omega.{arith}
 use Rattle.cell.proofs.Putting.{putting}
 use Rattle.cell.proofs.encode.put_blocks.Statement.{statement}
 use Rattle.cell.proofs.encode.put_blocks.Tie as tie

@@ -1,5 +1,4 @@
 -- `cell::encode::put_columns` meets its contract. Assumes nothing.
-use native.Mathlib.Omega.{arith}
 use Rattle.cell.proofs.Writing.{writing}
 use Rattle.cell.proofs.encode.put_columns.Statement.{statement}
 use Rattle.cell.proofs.encode.put_columns.Tie as tie

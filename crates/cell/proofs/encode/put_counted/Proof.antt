@@ -1,5 +1,4 @@
 -- `cell::encode::put_counted` meets its contract. Assumes nothing.
-use native.Mathlib.Omega.{arith}
 use Rattle.cell.proofs.Numbers.{numbers}
 use Rattle.cell.proofs.encode.put_counted.Statement.{statement}
 use Rattle.cell.proofs.encode.put_counted.Tie as tie

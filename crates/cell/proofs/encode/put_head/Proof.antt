@@ -1,5 +1,4 @@
 -- `cell::encode::put_head` meets its contract. Assumes nothing.
-use native.Mathlib.Omega.{arith}
 use Rattle.cell.proofs.Writing.{writing}
 use Rattle.cell.proofs.encode.put_head.Statement.{statement}
 use Rattle.cell.proofs.encode.put_head.Tie as tie

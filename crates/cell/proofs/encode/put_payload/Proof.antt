@@ -1,5 +1,4 @@
 -- `cell::encode::put_payload` meets its contract. Assumes nothing.
-use native.Mathlib.Omega.{arith}
 use Rattle.cell.proofs.Blocks.{blocks}
 use Rattle.cell.proofs.encode.put_payload.Statement.{statement}
 use Rattle.cell.proofs.encode.put_payload.Tie as tie

@@ -1,6 +1,5 @@
 -- `cell::encode::put_varint` meets its contract. Assumes nothing.
 use Rattle.varint.proofs.Writing.{Filling}
-use native.Mathlib.Omega.{arith}
 use Rattle.cell.proofs.Numbers.{numbers}
 use Rattle.cell.proofs.encode.put_varint.Statement.{statement}
 use Rattle.cell.proofs.encode.put_varint.Tie as tie

@@ -1,5 +1,4 @@
 -- `cell::encode::zigzag_bits` meets its contract. Assumes nothing.
-use native.Mathlib.Omega.{arith}
 use Rattle.cell.proofs.Numbers.{numbers}
 use Rattle.cell.proofs.encode.zigzag_bits.Statement.{statement}
 use Rattle.cell.proofs.encode.zigzag_bits.Tie as tie
