@@ -26,7 +26,7 @@ use Rattle.cell.specs.Written.{blockBytes}
 use Rattle.cell.specs.ValueList.{item}
 use Rattle.cell.specs.Listing.{used, held, blockLen, judged, Judged}
 use Rattle.cell.proofs.Numbers.{leb-byte}
-use Rattle.cell.proofs.Blocks.{blocks, held-none}
+use Rattle.cell.proofs.BlockWriting.{blocks, held-none}
 
 -- ---- lengths
 pub leb-most : (v : ℕ) → length (lebBytes v) ≤ 10

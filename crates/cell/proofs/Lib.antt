@@ -1,6 +1,6 @@
 pub mod Placing
 pub mod Numbers
-pub mod Blocks
+pub mod BlockWriting
 pub mod Nulls
 pub mod Putting
 pub mod Judging

@@ -1,5 +1,5 @@
 -- `cell::encode::data_used` meets its contract. Assumes nothing.
-use Rattle.cell.proofs.Blocks.{blocks}
+use Rattle.cell.proofs.BlockWriting.{blocks}
 use Rattle.cell.proofs.encode.data_used.Statement.{statement}
 use Rattle.cell.proofs.encode.data_used.Tie as tie
 

@@ -1,5 +1,5 @@
 -- `cell::encode::word_at` meets its contract. Assumes nothing.
-use Rattle.cell.proofs.Blocks.{blocks}
+use Rattle.cell.proofs.BlockWriting.{blocks}
 use Rattle.cell.proofs.encode.word_at.Statement.{statement}
 use Rattle.cell.proofs.encode.word_at.Tie as tie
 
