@@ -18,5 +18,5 @@ answers [] = []
 answers (r ∷ rs) = r .answer ∷ answers rs
 
 pub every-row : said rows ≡ answers rows
-unfolding rows says andThen pick taken sumFrom readFrom readU64 groups lebBytes lenU64 writeU64 zigzag unzigzag
+unfolding rows says andThen pick taken sumFrom readFrom readU64 groups lebBytes writeU64 zigzag unzigzag
 every-row = refl

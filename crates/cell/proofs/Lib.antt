@@ -6,3 +6,12 @@ pub mod Heads
 pub mod Keys
 pub mod Values
 pub mod ExactValue
+pub mod Placing
+pub mod Numbers
+pub mod BlockWriting
+pub mod Nulls
+pub mod Putting
+pub mod Judging
+pub mod Measuring
+pub mod Listed
+pub mod Writing

@@ -9,3 +9,4 @@ pub mod Content
 pub mod ValueList
 pub mod Written
 pub mod Paper
+pub mod Listing

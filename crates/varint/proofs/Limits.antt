@@ -59,7 +59,7 @@ pub record Passed (v n : ℕ) : Type 0 where
   pub same : n + length (groups (10 - n) (v / 2 ^ (7 * n))) ≡ lenU64 v
 
 pub passed-none : (v : ℕ) → Passed v 0
-unfolding lenU64 lebBytes
+unfolding lebBytes
 passed-none v =
     record { most = zero-le; same = rw (div-one v, zero-add (length (groups 10 v))) }
 

@@ -174,7 +174,7 @@ groups-shortest (more {group = g} {rest = m} {bytes = bs} h r) (suc n) = by (ltb
         rw (groups-more n (g + 128 * m) (ltb-false (g + 128 * m) 128 t), e) (suc-le-suc ih)
 
 pub written-shortest : {bytes : List ℕ} {v : ℕ} → Leb128 bytes v → lenU64 v ≤ length bytes
-unfolding lenU64 lebBytes
+unfolding lebBytes
 written-shortest q = groups-shortest q 10
 
 -- and of that length there is one alone
@@ -190,7 +190,7 @@ same-length-same (more {group = g} {rest = m} h q) (more {group = k} {rest = n} 
 
 -- ---- the round trip: what was written, followed by any bytes, is the number and its length
 pub written-read : (v : ℕ) → v < 2 ^ 64 → (t : List ℕ) → readFrom (lebBytes v ++ t) ≡ gives (v, lenU64 v)
-unfolding lenU64 lebBytes
+unfolding lebBytes
 written-read v h t =
     let e : v % 2 ^ 64 ≡ v = mod-eq-of-lt h in
     rw e at (sequence-read (written-sequence v h) (groups-most 10 v) t)

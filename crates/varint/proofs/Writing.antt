@@ -28,7 +28,7 @@ pub record Filling (out₀ : List ℕ) (value : ℕ) (out : List ℕ) (v i : ℕ
   pub same : sets out i (groups (10 - i) v) ≡ sets out₀ 0 (lebBytes value)
 
 pub filling-start : {out : List ℕ} {value : ℕ} → value < 2 ^ 64 → lenU64 value ≤ length out → Filling out value out value 0
-unfolding lenU64 lebBytes
+unfolding lebBytes
 filling-start {out} {value} f r =
     record {
       room = r;
@@ -76,7 +76,7 @@ module _ {out₀ out : List ℕ} {value v i : ℕ} (w : Filling out₀ value out
       rw (e, groups-last (9 - i) v h) at (w .count)
 
   pub filling-done : v < 128 → set out i v ≡ over out₀ (lebBytes value)
-  unfolding over lenU64
+  unfolding over
   filling-done h =
       let e : 10 - i ≡ suc (9 - i) = omega (arith, w .below) in
       let r : lenU64 value ≤ length out₀ = w .room in
@@ -103,7 +103,7 @@ module _ (value room : ℕ) {l : ℕ} (e : l ≡ lenU64 value) where
   accepted-output h out d = rw (le-ltb room (lenU64 value) (has-room h)) d
 
   pub accepted-size : {n : ℕ} → n ≡ lenU64 value → l ≤ room → paperWrote (W.Bytes n) ≡ sizeOf (writeU64 value room)
-  unfolding paperWrote sizeOf writeU64 pick lenU64
+  unfolding paperWrote sizeOf writeU64 pick
   accepted-size d h = rw (d, le-ltb room (lenU64 value) (has-room h))
 
 -- ---- one byte
@@ -113,20 +113,16 @@ module _ (value : ℕ) (h : value < 128) where
   one-byte = groups-last 9 value h
 
   pub byte-refused-size : (out : List ℕ) → length out ≡ 0 → paperWrote (W.Refused 16) ≡ sizeOf (writeU64 value (length out))
-  unfolding lenU64
   byte-refused-size out z = refused-size value (length out) refl (rw one-byte (omega arith))
 
   pub byte-refused-output : (out : List ℕ) → length out ≡ 0 → out ≡ put out (writeU64 value (length out))
-  unfolding lenU64
   byte-refused-output out z = refused-output value (length out) refl (rw one-byte (omega arith)) out
 
   module _ (out : List ℕ) (z : length out ≡ 0 → ⊥) where
     byte-room : lenU64 value ≤ length out
-    unfolding lenU64
     byte-room = rw one-byte (omega arith)
 
     pub byte-size : paperWrote (W.Bytes 1) ≡ sizeOf (writeU64 value (length out))
-    unfolding lenU64
     byte-size = accepted-size value (length out) refl (sym (ap length one-byte)) byte-room
 
     pub byte-output : set out 0 value ≡ put out (writeU64 value (length out))

@@ -41,7 +41,7 @@ groups (suc n) v = pick (ltb v 128) (v ∷ []) ((128 + v % 128) ∷ groups n (v 
 unfoldable pub lebBytes : ℕ → List ℕ
 lebBytes v = groups 10 v
 
-unfoldable pub lenU64 : ℕ → ℕ
+abbrev pub lenU64 : ℕ → ℕ
 lenU64 v = length (lebBytes v)
 
 -- The bytes to write into an output of room bytes; 16 where they do not fit.
