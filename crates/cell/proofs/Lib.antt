@@ -15,3 +15,4 @@ pub mod Judging
 pub mod Measuring
 pub mod Listed
 pub mod Writing
+pub mod KeyWriting

@@ -11,14 +11,11 @@ use lib.Seq.{take-all, length-take-le, drop-drop, drop-cons, sets, sets-eq, take
 use borrow.Author.Needs.{needs}
 use borrow.Rule.Slice.PartMut.{putMid}
 use Rattle.paper.specs.Answer.{over}
+use Rattle.cell.specs.Keyed.{overAt}
 
 -- what a part that goes to the end is
 pub rest-all : (s : List ℕ) (a : ℕ) → take (length s - a) (drop a s) ≡ drop a s
 rest-all s a = take-all (length s - a) (drop a s) (rw (length-drop a s) (omega arith))
-
--- bytes over the output from a place on
-abbrev pub overAt : List ℕ → ℕ → List ℕ → List ℕ
-overAt out at bytes = take at out ++ over (drop at out) bytes
 
 pub length-over : (out bytes : List ℕ) → length bytes ≤ length out → length (over out bytes) ≡ length out
 unfolding over

@@ -14,7 +14,8 @@ use Rattle.paper.specs.Answer.{over}
 use Rattle.cell.specs.Written.{blockBytes, blocksBytes}
 use Rattle.cell.specs.ValueList.{wordsOf}
 use Rattle.cell.specs.Listing.{wordList, used, held, usedAll, heldAll}
-use Rattle.cell.proofs.Placing.{overAt, lent, at-then, rest-all, length-at}
+use Rattle.cell.specs.Keyed.{overAt}
+use Rattle.cell.proofs.Placing.{lent, at-then, rest-all, length-at}
 use Rattle.cell.proofs.BlockWriting.{blocks}
 
 -- what the columns from column i on write, their data from place from on

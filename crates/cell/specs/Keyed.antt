@@ -5,8 +5,8 @@ use mathlib.Core.Path.{_≡_}
 use mathlib.Core.List.{List, _∷_, _++_}
 use lib.Dec.{ltb, eqb}
 use lib.IntN.{ℤ}
-use lib.ListN.{length, getD}
-use Rattle.paper.specs.Answer.{Answer, gives, refuses, andThen, pick}
+use lib.ListN.{length, take, drop, getD}
+use Rattle.paper.specs.Answer.{Answer, gives, refuses, andThen, pick, over}
 use Rattle.paper.specs.Coded.{Coded}
 use Rattle.field.specs.Field.{le, bytes}
 use Rattle.varint.specs.Leb.{lebBytes}
@@ -36,6 +36,14 @@ unfoldable pub fitted : ℕ → List ℕ → Answer (List ℕ)
 fitted room out = pick (ltb room (length out)) (refuses 16) (gives out)
 
 -- ---- what the code's steps say to each other
+
+-- an entry's first bytes: the length of a short body, its kind, and its rowid as ZigZag has it
+unfoldable pub keyOf : ℕ → ℕ → ℕ → List ℕ
+keyOf size kind rowid = size ∷ kind ∷ lebBytes rowid
+
+-- bytes over the output from a place on
+abbrev pub overAt : List ℕ → ℕ → List ℕ → List ℕ
+overAt out at new = take at out ++ over (drop at out) new
 
 -- the rowid as ZigZag has it, and the word of the place behind it
 pub record Keyed (kind : ℕ) (body : List ℕ) (rowid at : ℕ) : Type 0 where

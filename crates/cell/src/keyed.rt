@@ -1,8 +1,12 @@
 // What overflow references and interior entries share: the rowid after the kind byte, and the page number at the end.
 ghost use mathlib.Core.Path.{_≡_};
-ghost use Prim.Native.Nat.{_-_, _^_, _≤_};
+ghost use mathlib.Core.List.{[], _∷_};
+ghost use Prim.Native.Nat.{_+_, _-_, _^_, _≤_, _<_};
 ghost use lib.ListN.{length};
-ghost use Rattle.cell.specs.Keyed.{Keyed, PageWord};
+ghost use Rattle.cell.specs.Keyed.{Keyed, PageWord, keyOf, overAt};
+ghost use Rattle.paper.specs.Answer.{over};
+ghost use Rattle.field.specs.Field.{bytes};
+ghost use Rattle.varint.specs.Leb.{lebBytes};
 use paper::inner::refusal;
 
 // The rowid as ZigZag has it, and the place behind it or a refusal.
@@ -56,4 +60,31 @@ pub fn page_at(body: &[u8], at: usize) -> usize
         return field::inner::u32_at(&body[at..]) as usize;
     }
     refusal(10)
+}
+
+fn put_start(out: &mut [u8], size: u8, kind: u8)
+    requires { ⌜ 2 ≤ length (now out) ⌝ }
+    ensures { λ _. ⌜ now (out .exit) ≡ over (now (out .entry)) (size ∷ kind ∷ []) ⌝ }
+{
+    out[0] = size;
+    out[1] = kind;
+}
+
+// Writes a short body's length, its kind and its rowid, as ZigZag has it, from the start of `out`, which has room. Answers the
+// place behind them.
+pub fn put_key(out: &mut [u8], size: usize, kind: u8, rowid: u64) -> usize
+    requires { ⌜ (size < 128) × (2 + length (lebBytes rowid) ≤ length (now out)) ⌝ }
+    ensures { λ r. ⌜ r ≡ 2 + length (lebBytes rowid) ⌝ }
+    ensures { λ _. ⌜ now (out .exit) ≡ over (now (out .entry)) (keyOf size kind rowid) ⌝ }
+{
+    put_start(out, size as u8, kind);
+    2 + varint::inner::put_u64(&mut out[2..], rowid)
+}
+
+// Writes a page number over the last part of an entry, which starts at `at`.
+pub fn put_page(out: &mut [u8], at: usize, page: u32)
+    requires { ⌜ at + 4 ≤ length (now out) ⌝ }
+    ensures { λ _. ⌜ now (out .exit) ≡ overAt (now (out .entry)) at (bytes 4 page) ⌝ }
+{
+    field::inner::put_u32(&mut out[at..], page)
 }

@@ -1,0 +1,42 @@
+-- Writing what overflow references and interior entries share.
+-- Assumes nothing.
+use mathlib.Core.Path.{_≡_, refl, sym, _∙_, ap}
+use mathlib.Core.List.{List, [], _∷_, _++_}
+use Prim.Native.Nat.{ℕ, zero, suc, _+_, _-_, _^_, _≤_, _<_}
+use native.Mathlib.Omega.{arith}
+use lib.ListN.{length, take, drop, set, length-append, length-set}
+use borrow.Author.Tests.{lt-ltb, le-ltb}
+use borrow.Rule.Slice.PartMut.{putMid}
+use Rattle.paper.specs.Answer.{Answer, gives, refuses, pick, over, put, sizeOf}
+use Rattle.field.specs.Field.{bytes}
+use Rattle.field.proofs.Storing.{length-bytes}
+use Rattle.varint.specs.Leb.{lebBytes}
+use Rattle.varint.specs.Paper.{paperWrote}
+use Rattle.varint.specs.declared.Wrote.the-variants as W
+use Rattle.varint.proofs.Limits.{groups-last}
+use Rattle.varint.proofs.Standard.{groups-most}
+use Rattle.cell.specs.Keyed.{keyOf, overAt, withLength, fitted}
+use Rattle.cell.proofs.Placing.{lent, then-over, rest-all, over-then, placing}
+
+-- a varint has ten bytes at most
+pub leb-most : (v : ℕ) → length (lebBytes v) ≤ 10
+unfolding lebBytes
+leb-most v = groups-most 10 v
+
+pub two-first : (out : List ℕ) (a b : ℕ) → 2 ≤ length out → set (set out 0 a) 1 b ≡ over out (a ∷ b ∷ [])
+unfolding over
+two-first [] a b l = absurd (omega arith)
+two-first (x ∷ []) a b l = absurd (omega arith)
+two-first (x ∷ (y ∷ out)) a b l = refl
+
+pub key-output : (out x new : List ℕ) (size kind rowid : ℕ) → x ≡ over out (size ∷ kind ∷ []) → 2 + length (lebBytes rowid) ≤ length out
+    → new ≡ over (take (length x - 2) (drop 2 x)) (lebBytes rowid) → putMid 2 (length x - 2) x new ≡ over out (keyOf size kind rowid)
+unfolding keyOf
+key-output out x new size kind rowid d l e = then-over out (size ∷ kind ∷ []) (lebBytes rowid) x new 2 d refl l e
+
+pub page-output : (out : List ℕ) (at page : ℕ) {new : List ℕ} → at + 4 ≤ length out
+    → new ≡ bytes 4 page ++ drop 4 (take (length out - at) (drop at out)) → putMid at (length out - at) out new ≡ overAt out at (bytes 4 page)
+unfolding over
+page-output out at page {new} l e = lent out at (bytes 4 page) {new = new} (rw (length-bytes 4 page) e) (omega arith)
+
+pub ruleset key-writing = (placing, key-output, page-output)
