@@ -39,4 +39,18 @@ pub page-output : (out : List ℕ) (at page : ℕ) {new : List ℕ} → at + 4 �
 unfolding over
 page-output out at page {new} l e = lent out at (bytes 4 page) {new = new} (rw (length-bytes 4 page) e) (omega arith)
 
+-- ---- the whole: a short body's length is one byte, and the room decides
+pub short-length : (body : List ℕ) → length body < 128 → withLength body ≡ length body ∷ body
+unfolding withLength lebBytes
+short-length body l = rw (groups-last 9 (length body) l)
+
+module _ (room : ℕ) (out : List ℕ) where
+  pub fitted-short : room < length out → fitted room out ≡ refuses 16
+  unfolding fitted pick
+  fitted-short l = rw (lt-ltb room (length out) l)
+
+  pub fitted-whole : length out ≤ room → fitted room out ≡ gives out
+  unfolding fitted pick
+  fitted-whole l = rw (le-ltb room (length out) l)
+
 pub ruleset key-writing = (placing, key-output, page-output)

@@ -1,8 +1,11 @@
 -- What the reader's steps say to each other. No public promise names these.
 use mathlib.Core.Path.{_≡_}
-use mathlib.Core.List.{List}
+use mathlib.Core.List.{List, _++_}
 use Prim.Native.Nat.{ℕ, _-_, _^_, _≤_, _<_}
 use Rattle.paper.specs.Answer.{gives, refuses}
+use Rattle.field.specs.Field.{bytes}
+use Rattle.varint.specs.Leb.{lebBytes}
+use Rattle.cell.specs.Keyed.{keyOf}
 use Rattle.varint.specs.Zigzag.{unzigzag}
 use Rattle.overflow.specs.Reference.{referenceBody}
 
@@ -12,3 +15,7 @@ pub record Refers (body : List ℕ) (rowid total page : ℕ) : Type 0 where
   pub top : 2 ^ 63 ≤ page → 2 ^ 64 - 256 ≤ page
   pub given : page < 2 ^ 63 → gives (unzigzag rowid, total, page) ≡ referenceBody body
   pub small : page < 2 ^ 63 → page < 2 ^ 32
+
+-- the bytes of a reference whose body has size bytes, its rowid as ZigZag has it
+unfoldable pub referenceWords : ℕ → ℕ → ℕ → ℕ → List ℕ
+referenceWords size rowid total page = keyOf size 2 rowid ++ (lebBytes total ++ bytes 4 page)

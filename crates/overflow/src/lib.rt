@@ -1,20 +1,24 @@
 // Overflow: the first half of overflow.rs. The reference that stands on a page for a row kept in a chain, and the paged entry,
 // which is a local cell or such a reference.
 ghost use mathlib.Core.Path.{_≡_};
-ghost use Prim.Native.Nat.{_-_, _^_};
+ghost use Prim.Native.Nat.{_+_, _≤_, _<_};
 ghost use lib.ListN.{length, drop};
-ghost use Rattle.paper.specs.Answer.{put, sizeOf};
+ghost use Rattle.paper.specs.Answer.{over, put, sizeOf};
+ghost use mathlib.Core.List.{_++_};
+ghost use Rattle.cell.specs.Keyed.{keyOf};
+ghost use Rattle.varint.specs.Leb.{lebBytes};
 ghost use Rattle.varint.specs.Paper.{paperWrote};
 ghost use Rattle.overflow.specs.Reference.{referenceFrom, writeReference};
 ghost use Rattle.overflow.specs.Paged.{pagedFrom, localPaged, referencePaged};
 ghost use Rattle.overflow.specs.Paper.{paperRef, paperPaged};
-ghost use Rattle.overflow.specs.Words.{Refers};
+ghost use Rattle.overflow.specs.Words.{Refers, referenceWords};
 use cell::Decoded;
 use cell::Head;
 use cell::PeekedKind;
 use cell::inner::NO_PLACE;
 use paper::inner::number;
 use paper::inner::refusal;
+use varint::Wrote;
 
 // The marker that stands in for a cell whose body lives in an overflow chain.
 pub struct OverflowRef {
@@ -148,4 +152,37 @@ pub fn decode_paged(buf: &[u8], pos: usize) -> PagedEntry
         }
         PeekedKind::Refused(k) => PagedEntry::Refused(k),
     }
+}
+
+// Writes a reference up to its page over the start of `out`, which has room: `size` is its body's length.
+fn put_total(out: &mut [u8], size: usize, rowid: u64, total: u64) -> usize
+    requires { ⌜ (size < 128) × (6 + length (lebBytes rowid) + length (lebBytes total) ≤ length (now out)) ⌝ }
+    ensures { λ r. ⌜ r ≡ 2 + length (lebBytes rowid) + length (lebBytes total) ⌝ }
+    ensures { λ _. ⌜ now (out .exit) ≡ over (now (out .entry)) (keyOf size 2 rowid ++ lebBytes total) ⌝ }
+{
+    let at = cell::keyed::put_key(out, size, cell::KIND_OVERFLOW, rowid);
+    at + varint::inner::put_u64(&mut out[at..], total)
+}
+
+fn put_reference(out: &mut [u8], size: usize, rowid: u64, total: u64, page: u32)
+    requires { ⌜ (size < 128) × (6 + length (lebBytes rowid) + length (lebBytes total) ≤ length (now out)) ⌝ }
+    ensures { λ _. ⌜ now (out .exit) ≡ over (now (out .entry)) (referenceWords size rowid total page) ⌝ }
+{
+    let end = put_total(out, size, rowid, total);
+    cell::keyed::put_page(out, end, page)
+}
+
+// Writes the reference; at most 26 bytes. An output that is too short is refused and keeps every byte.
+pub fn encode(reference: OverflowRef, out: &mut [u8]) -> Wrote
+    ensures { λ r. ⌜ paperWrote r ≡ sizeOf (writeReference (reference .rowid) (reference .«total_body_len») (reference .«first_overflow_page») (length (now (out .entry)))) ⌝ }
+    ensures { λ _. ⌜ now (out .exit) ≡ put (now (out .entry)) (writeReference (reference .rowid) (reference .«total_body_len») (reference .«first_overflow_page») (length (now (out .entry)))) ⌝ }
+{
+    let rowid = varint::zigzag_encode(reference.rowid);
+    let total = reference.total_body_len;
+    let size = 5 + varint::u64_len(rowid) + varint::u64_len(total);
+    if out.len() < 1 + size {
+        return Wrote::Refused(16);
+    }
+    put_reference(out, size, rowid, total, reference.first_overflow_page);
+    Wrote::Bytes(1 + size)
 }

@@ -1,0 +1,20 @@
+-- `overflow::encode` meets its contract. Assumes nothing.
+use Rattle.overflow.proofs.RefWriting.{ref-writing}
+use Rattle.overflow.proofs.encode.Statement.{statement}
+use Rattle.overflow.proofs.encode.Tie as tie
+
+pub encode-spec : {M : Type 1} → statement M
+encode-spec =
+    tie.close
+    (tie.spec
+    (λ c κs. search ref-writing)
+    (λ c κs. search ref-writing)
+    (λ c. search ref-writing)
+    (λ c κs. search ref-writing)
+    (λ c. search ref-writing)
+    (λ c. search ref-writing)
+    (λ c. search ref-writing)
+    (λ c κs. search ref-writing)
+    (λ c. search ref-writing)
+    (λ c. search ref-writing)
+    (λ c. search ref-writing))
