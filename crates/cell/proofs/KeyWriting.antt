@@ -4,6 +4,11 @@ use mathlib.Core.Path.{_≡_, refl, sym, _∙_, ap}
 use mathlib.Core.List.{List, [], _∷_, _++_}
 use Prim.Native.Nat.{ℕ, zero, suc, _+_, _-_, _^_, _≤_, _<_}
 use native.Mathlib.Omega.{arith}
+use lib.IntN.{ℤ}
+use mir.Syntax.{w64}
+use mir.Val.{SFits, ofZ, toZ}
+use mir.ValLaws.{toZ-ofZ}
+use Rattle.varint.specs.Zigzag.{zigzag}
 use lib.ListN.{length, take, drop, set, length-append, length-set}
 use borrow.Author.Tests.{lt-ltb, le-ltb}
 use borrow.Rule.Slice.PartMut.{putMid}
@@ -44,13 +49,34 @@ pub short-length : (body : List ℕ) → length body < 128 → withLength body �
 unfolding withLength lebBytes
 short-length body l = rw (groups-last 9 (length body) l)
 
-module _ (room : ℕ) (out : List ℕ) where
-  pub fitted-short : room < length out → fitted room out ≡ refuses 16
-  unfolding fitted pick
-  fitted-short l = rw (lt-ltb room (length out) l)
+module _ (out entry : List ℕ) {n : ℕ} (e : length entry ≡ n) where
+  pub short-size : length out < n → paperWrote (W.Refused 16) ≡ sizeOf (fitted (length out) entry)
+  unfolding paperWrote sizeOf fitted pick
+  short-size l = rw (lt-ltb (length out) (length entry) (rw e l))
 
-  pub fitted-whole : length out ≤ room → fitted room out ≡ gives out
-  unfolding fitted pick
-  fitted-whole l = rw (le-ltb room (length out) l)
+  pub short-output : length out < n → out ≡ put out (fitted (length out) entry)
+  unfolding put fitted pick
+  short-output l = rw (lt-ltb (length out) (length entry) (rw e l))
+
+  pub whole-size : n ≤ length out → paperWrote (W.Bytes n) ≡ sizeOf (fitted (length out) entry)
+  unfolding paperWrote sizeOf fitted pick
+  whole-size l = rw (le-ltb (length out) (length entry) (rw e l), e)
+
+  pub whole-output : n ≤ length out → over out entry ≡ put out (fitted (length out) entry)
+  unfolding put fitted pick
+  whole-output l = rw (le-ltb (length out) (length entry) (rw e l))
+
+-- ---- the parts of an entry that ends in a page number
+pub key-length : (size kind rowid : ℕ) → length (keyOf size kind rowid) ≡ 2 + length (lebBytes rowid)
+unfolding keyOf
+key-length size kind rowid = omega arith
+
+pub page-after : (out front y z : List ℕ) (page n : ℕ) → y ≡ over out front → n ≡ length front → length front + 4 ≤ length out
+    → z ≡ overAt y n (bytes 4 page) → z ≡ over out (front ++ bytes 4 page)
+page-after out front y z page n d e l f = f ∙ rw d (over-then out front (bytes 4 page) n e (rw (length-bytes 4 page) l))
+
+-- a signed number comes as the number of its bits
+pub id-is : (z : ℤ) {id : ℕ} → SFits w64 z → id ≡ zigzag (toZ w64 (ofZ w64 z)) → id ≡ zigzag z
+id-is z f i = rw (toZ-ofZ w64 z f) at i
 
 pub ruleset key-writing = (placing, key-output, page-output)

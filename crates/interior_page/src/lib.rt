@@ -1,11 +1,16 @@
 // Interior pages: the port of interior_page.rs. Here stands the divider cell; the page stands on it.
 ghost use mathlib.Core.Path.{_≡_};
-ghost use lib.ListN.{drop};
-ghost use Rattle.interior_page.specs.InteriorCells.{interiorFrom};
+ghost use Prim.Native.Nat.{_+_, _≤_, _<_};
+ghost use lib.ListN.{length, drop};
+ghost use Rattle.paper.specs.Answer.{over, put, sizeOf};
+ghost use Rattle.varint.specs.Leb.{lebBytes};
+ghost use Rattle.varint.specs.Paper.{paperWrote};
+ghost use Rattle.interior_page.specs.InteriorCells.{interiorFrom, writeInterior};
 ghost use Rattle.interior_page.specs.Paper.{paperInterior};
-ghost use Rattle.interior_page.specs.Words.{Divides};
+ghost use Rattle.interior_page.specs.Words.{Divides, dividerWords};
 use cell::inner::NO_PLACE;
 use paper::inner::number;
+use varint::Wrote;
 
 // One divider: rowids up to `divider_rowid` live under `child_page`.
 pub struct InteriorCell {
@@ -73,4 +78,27 @@ pub fn decode(buf: &[u8], pos: usize) -> DecodedInterior
         return DecodedInterior::Refused(1);
     }
     decode_from(&buf[pos..])
+}
+
+// Writes a divider over the start of `out`, which has room: `size` is its body's length.
+fn put_divider(out: &mut [u8], size: usize, divider: u64, child: u32)
+    requires { ⌜ (size < 128) × (6 + length (lebBytes divider) ≤ length (now out)) ⌝ }
+    ensures { λ _. ⌜ now (out .exit) ≡ over (now (out .entry)) (dividerWords size divider child) ⌝ }
+{
+    let at = cell::keyed::put_key(out, size, cell::KIND_INTERIOR, divider);
+    cell::keyed::put_page(out, at, child)
+}
+
+// Writes the interior cell; at most 16 bytes. An output that is too short is refused and keeps every byte.
+pub fn encode(cell: InteriorCell, out: &mut [u8]) -> Wrote
+    ensures { λ r. ⌜ paperWrote r ≡ sizeOf (writeInterior (cell .«divider_rowid») (cell .«child_page») (length (now (out .entry)))) ⌝ }
+    ensures { λ _. ⌜ now (out .exit) ≡ put (now (out .entry)) (writeInterior (cell .«divider_rowid») (cell .«child_page») (length (now (out .entry)))) ⌝ }
+{
+    let divider = varint::zigzag_encode(cell.divider_rowid);
+    let size = 5 + varint::u64_len(divider);
+    if out.len() < 1 + size {
+        return Wrote::Refused(16);
+    }
+    put_divider(out, size, divider, cell.child_page);
+    Wrote::Bytes(1 + size)
 }

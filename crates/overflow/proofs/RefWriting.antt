@@ -19,14 +19,10 @@ use Rattle.varint.specs.Paper.{paperWrote}
 use Rattle.varint.specs.Zigzag.{zigzag}
 use Rattle.varint.specs.declared.Wrote.the-variants as W
 use Rattle.cell.specs.Keyed.{keyOf, overAt, withLength, keyedBytes, fitted}
-use Rattle.cell.proofs.KeyWriting.{leb-most, short-length, fitted-short, fitted-whole}
+use Rattle.cell.proofs.KeyWriting.{leb-most, short-length, short-size, short-output, whole-size, whole-output, key-length, page-after, id-is}
 use Rattle.cell.proofs.Placing.{then-over, over-then, length-over, placing}
 use Rattle.overflow.specs.Reference.{referenceBytes, writeReference}
 use Rattle.overflow.specs.Words.{referenceWords}
-
-key-length : (size kind rowid : ℕ) → length (keyOf size kind rowid) ≡ 2 + length (lebBytes rowid)
-unfolding keyOf
-key-length size kind rowid = omega arith
 
 -- ---- part after part
 module _ (out x : List ℕ) (size rowid total page : ℕ) {at : ℕ} (d : x ≡ over out (keyOf size 2 rowid)) (e : at ≡ 2 + length (lebBytes rowid))
@@ -45,16 +41,12 @@ pub page-ends : (out y z : List ℕ) (size rowid total page n : ℕ) → y ≡ o
 unfolding referenceWords
 page-ends out y z size rowid total page n d e l f =
     let k : length (keyOf size 2 rowid ++ lebBytes total) ≡ n = rw (length-append (keyOf size 2 rowid) (lebBytes total), key-length size 2 rowid) (sym e) in
-    let m : length (keyOf size 2 rowid ++ lebBytes total) + length (bytes 4 page) ≤ length out = rw (k, length-bytes 4 page) (omega arith) in
-    f ∙ rw d (over-then out (keyOf size 2 rowid ++ lebBytes total) (bytes 4 page) n (sym k) m)
+    page-after out (keyOf size 2 rowid ++ lebBytes total) y z page n d (sym k) (rw k (omega arith)) f
     ∙ ap (over out) (append-assoc (keyOf size 2 rowid) (lebBytes total) (bytes 4 page))
 
 -- ---- the whole
 module _ (z : ℤ) (total page : ℕ) {id a b : ℕ} (fits : SFits w64 z) (i : id ≡ zigzag (toZ w64 (ofZ w64 z)))
     (e : a ≡ length (lebBytes id)) (d : b ≡ length (lebBytes total)) where
-  id-is : id ≡ zigzag z
-  id-is = rw (toZ-ofZ w64 z fits) at i
-
   reference-is : referenceBytes z total page ≡ referenceWords (5 + a + b) id total page
   unfolding referenceBytes referenceWords keyedBytes keyOf
   reference-is =
@@ -62,7 +54,7 @@ module _ (z : ℤ) (total page : ℕ) {id a b : ℕ} (fits : SFits w64 z) (i : i
       let n : length s ≡ 5 + a + b
       = rw (length-append (lebBytes id) (lebBytes total ++ bytes 4 page), length-append (lebBytes total) (bytes 4 page), length-bytes 4 page) (omega arith) in
       let m : length s < 128 = omega (arith, leb-most id, leb-most total) in
-      rw (← id-is) (short-length s m ∙ ap (λ (k : ℕ). k ∷ s) n)
+      rw (← id-is z fits i) (short-length s m ∙ ap (λ (k : ℕ). k ∷ s) n)
 
   reference-length : length (referenceBytes z total page) ≡ 1 + (5 + a + b)
   unfolding referenceWords keyOf
@@ -72,21 +64,21 @@ module _ (z : ℤ) (total page : ℕ) {id a b : ℕ} (fits : SFits w64 z) (i : i
 
   module _ (out : List ℕ) where
     pub refused-size : length out < 1 + (5 + a + b) → paperWrote (W.Refused 16) ≡ sizeOf (writeReference z total page (length out))
-    unfolding paperWrote sizeOf writeReference
-    refused-size l = rw (fitted-short (length out) (referenceBytes z total page) (rw reference-length l))
+    unfolding writeReference
+    refused-size l = short-size out (referenceBytes z total page) reference-length l
 
     pub refused-output : length out < 1 + (5 + a + b) → out ≡ put out (writeReference z total page (length out))
-    unfolding put writeReference
-    refused-output l = rw (fitted-short (length out) (referenceBytes z total page) (rw reference-length l))
+    unfolding writeReference
+    refused-output l = short-output out (referenceBytes z total page) reference-length l
 
     pub written-size : 1 + (5 + a + b) ≤ length out → paperWrote (W.Bytes (1 + (5 + a + b))) ≡ sizeOf (writeReference z total page (length out))
-    unfolding paperWrote sizeOf writeReference
-    written-size l = rw (fitted-whole (length out) (referenceBytes z total page) (rw reference-length l), reference-length)
+    unfolding writeReference
+    written-size l = whole-size out (referenceBytes z total page) reference-length l
 
     pub written-output : {new : List ℕ} → 1 + (5 + a + b) ≤ length out → new ≡ over out (referenceWords (5 + a + b) id total page)
         → new ≡ put out (writeReference z total page (length out))
-    unfolding put writeReference
-    written-output l f = rw (fitted-whole (length out) (referenceBytes z total page) (rw reference-length l), reference-is) f
+    unfolding writeReference
+    written-output l f = f ∙ ap (over out) (sym reference-is) ∙ whole-output out (referenceBytes z total page) reference-length l
 
 module _ (v w : ℕ) {a b : ℕ} (e : a ≡ length (lebBytes v)) (d : b ≡ length (lebBytes w)) where
   pub size-small : 5 + a + b < 128
