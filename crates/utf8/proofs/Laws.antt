@@ -2,11 +2,10 @@
 -- Assumes nothing.
 use Prim.Native.Nat.{ℕ, _+_, _-_, _≤_, _<_}
 use native.Mathlib.Omega.{arith}
-use mathlib.Core.Path.{_≡_, refl, sym, ap, subst, _∙_}
-use mathlib.Core.Bool.{Bool, true, false}
+use mathlib.Core.Path.{_≡_, refl, sym, ap, _∙_}
+use mathlib.Core.Bool.{true, false}
 use mathlib.Core.List.{List, [], _∷_, _++_}
 use mathlib.Core.Option.{Option, none, some}
-use lib.Dec.{leb}
 use lib.ListN.{length, take, drop, length-append, length-drop}
 use lib.Seq.{take-append-le, drop-append-le, drop-length}
 use borrow.Author.Needs.{needs}
@@ -33,6 +32,16 @@ paper-exact Text Text e = refl
 paper-exact Text (Refused k) e = absurd (let z : _≡_ {A = ℕ} 0 1 = cc in omega arith)
 paper-exact (Refused k) Text e = absurd (let z : _≡_ {A = ℕ} 0 1 = cc in omega arith)
 paper-exact (Refused k) (Refused j) e = let f : k ≡ j = cc in ap Refused f
+
+-- what a caller learns where it takes the answer apart
+module _ {r : Checked} {q : Answer (Unit {0})} (e : paper r ≡ q) where
+  pub checked-text : r ≡ Text → gives tt ≡ q
+  unfolding paper
+  checked-text h = sym (ap paper h) ∙ e
+
+  pub checked-refused : {k : ℕ} → r ≡ Refused k → refuses k ≡ q
+  unfolding paper
+  checked-refused h = sym (ap paper h) ∙ e
 
 pub text-gives : (s : List ℕ) → wellFormed s ≡ true → checkText s ≡ gives tt
 unfolding checkText pick
@@ -116,4 +125,4 @@ pub encoded-text : (vs : List ℕ) → Scalars vs → wellFormed (encode vs) ≡
 encoded-text vs h = rows-pass (encode-rows vs h)
 
 pub ruleset text =
-    (needs, text-gives, text-refuses, at-inside, at-outside, gives-inside, gives-well-formed, at-moved, at-append, at-drop, empty-text, text-append, ascii-text, encoded-text)
+    (needs, checked-text, checked-refused, text-gives, text-refuses, at-inside, at-outside, gives-inside, gives-well-formed, at-moved, at-append, at-drop, empty-text, text-append, ascii-text, encoded-text)

@@ -4,15 +4,15 @@ use Prim.Native.Nat.{ℕ, suc, _+_, _-_, _*_, _/_, _%_, _≤_, _<_}
 use native.Mathlib.Omega.{arith}
 use native.Mathlib.Nat.{not-suc-le-zero, le-of-suc-le-suc}
 use mathlib.Core.Path.{_≡_, refl, sym, ap, subst, _∙_}
-use mathlib.Core.Bool.{Bool, true, false}
+use mathlib.Core.Bool.{true}
 use mathlib.Core.List.{List, [], _∷_, _++_, List·Memᴰ, List·Memᴰ·head, List·Memᴰ·tail, List·Memᴰ·not-nil, List·Memᴰ·cases-cons, append-nil}
 use mathlib.Core.Logic.{_⊎_, inl, inr, _↔_}
 use lib.Dec.{ltb, lit<}
 use lib.ListN.{length, getD}
 use lib.Seq.{append-snoc}
-use borrow.Author.Tests.{lt-ltb, le-ltb, ltb-true, ltb-false}
+use borrow.Author.Tests.{lt-ltb, le-ltb}
 use Rattle.paper.specs.Answer.{pick}
-use Rattle.utf8.specs.Table.{Range, _‥_, Row, table}
+use Rattle.utf8.specs.Table.{_‥_, Row, table}
 use Rattle.utf8.specs.WellFormed.{In, Fits, done, byte, OfRows, end, row, wellFormed}
 use Rattle.utf8.specs.Scalar.{Scalar, Scalars, bytesOf, encode}
 use Rattle.utf8.proofs.Rows.{rows-pass, passes-rows}

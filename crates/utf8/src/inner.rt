@@ -1,92 +1,16 @@
 // The quick form. Words of plain ASCII are passed over, and whatever else is read by a machine of nine states (specs/Machine.antt).
 ghost use mathlib.Core.Path.{_≡_};
 ghost use mathlib.Core.Bool.{true};
-ghost use Prim.Native.Nat.{_+_, _%_, _≤_, _<_};
+ghost use Prim.Native.Nat.{_%_, _≤_, _<_};
 ghost use lib.ListN.{length, drop};
 ghost use Rattle.utf8.specs.WellFormed.{wellFormed};
 ghost use Rattle.utf8.specs.Machine.{State, Moves, Reads, Alike, Chart, Line, Packs};
 ghost use Rattle.utf8.specs.Ascii.{word8, Ascii, Passed};
 
+// ---- words of ASCII
+
 // The high bit of each byte of a word.
 const HIGH: u64 = 0x8080_8080_8080_8080;
-
-// A chart of the bytes 00 to FF, sixteen to a line: bytes that no row of the table tells apart have one letter, and - stands for those in no row.
-// The low four bits of a letter number its class: p is 0, a is 1, and - is none of them.
-const CHART: [u8; 256] = *b"\
-    pppppppppppppppp\
-    pppppppppppppppp\
-    pppppppppppppppp\
-    pppppppppppppppp\
-    pppppppppppppppp\
-    pppppppppppppppp\
-    pppppppppppppppp\
-    pppppppppppppppp\
-    aaaaaaaaaaaaaaaa\
-    bbbbbbbbbbbbbbbb\
-    cccccccccccccccc\
-    cccccccccccccccc\
-    --dddddddddddddd\
-    dddddddddddddddd\
-    effffffffffffgff\
-    hiiij-----------";
-
-// From every state into that of no row.
-const NO_ROW: u64 = 0o06_06_06_06_06_06_06_06_06;
-
-// Where a byte of this class leads from each state: two octal digits to a state, the first state's last.
-// All sixteen numbers are listed, so that this compiles to one load.
-fn moves(class: u64) -> u64
-    ensures { λ r. ⌜ Packs (class % 16) r ⌝ }
-{
-    match class % 16 {
-        0 => 0o06_06_06_06_06_06_06_06_00,
-        1 => 0o22_22_06_14_06_14_00_06_06,
-        2 => 0o06_22_22_14_06_14_00_06_06,
-        3 => 0o06_22_22_06_14_14_00_06_06,
-        4 => 0o06_06_06_06_06_06_06_06_14,
-        5 => 0o06_06_06_06_06_06_06_06_30,
-        6 => 0o06_06_06_06_06_06_06_06_22,
-        7 => 0o06_06_06_06_06_06_06_06_36,
-        8 => 0o06_06_06_06_06_06_06_06_44,
-        9 => 0o06_06_06_06_06_06_06_06_52,
-        10 => 0o06_06_06_06_06_06_06_06_60,
-        11 => NO_ROW,
-        12 => NO_ROW,
-        13 => NO_ROW,
-        14 => NO_ROW,
-        15 => NO_ROW,
-        _ => NO_ROW,
-    }
-}
-
-// The machine reads a byte of this class.
-fn step(state: u64, class: u64) -> u64
-    requires { ⌜ State state ⌝ }
-    ensures { λ r. ⌜ Moves state class r ⌝ }
-{
-    moves(class) >> (state % 64)
-}
-
-fn class_in(chart: &[u8; 256], byte: u8) -> u64
-    requires { ⌜ Chart (now chart) ⌝ }
-    ensures { λ r. ⌜ Alike byte r ⌝ }
-{
-    wide(chart[byte as usize])
-}
-
-// The machine reads s[from..to].
-fn run(state: u64, s: &[u8], from: usize, to: usize, chart: &[u8; 256]) -> u64
-    requires { ⌜ State state × Chart (now chart) × (from ≤ to) × (to ≤ length (now s)) ⌝ }
-    ensures { λ r. ⌜ Reads (now (s .entry)) state from r to ⌝ }
-{
-    let mut x = state;
-    let mut i = from;
-    while i < to {
-        x = step(x, class_in(chart, s[i]));
-        i += 1;
-    }
-    x
-}
 
 fn wide(x: u8) -> u64
     ensures { λ r. ⌜ (r ≡ x) × (r < 256) ⌝ }
@@ -145,25 +69,73 @@ fn past_ascii(s: &[u8], from: usize) -> usize
     i
 }
 
-// Whether s[from..] is well-formed, by the machine. A chart is laid out here, so texts of ASCII alone do not come this way.
-fn rest(s: &[u8], from: usize) -> bool
-    requires { ⌜ from ≤ length (now s) ⌝ }
-    ensures { λ r. ⌜ r ≡ wellFormed (drop from (now (s .entry))) ⌝ }
+// ---- the machine: a state is the low six bits of a number, and a byte is read by a shift
+
+// From every state into that of no row.
+const NO_ROW: u64 = 0o06_06_06_06_06_06_06_06_06;
+
+// Where a byte of this class leads from each state: two octal digits to a state, the first state's last.
+// All sixteen numbers are listed, so that this compiles to one load.
+fn moves(class: u64) -> u64
+    ensures { λ r. ⌜ Packs (class % 16) r ⌝ }
 {
-    let chart = CHART;
-    let mut x = 0;
-    let mut i = from;
-    while 8 <= s.len() - i {
-        x = run(x, s, i, i + 8, &chart);
-        if x % 64 == 6 {
-            return false;
-        }
-        i += 8;
-        if x % 64 == 0 {
-            i = past_ascii(s, i);
-        }
+    match class % 16 {
+        0 => 0o06_06_06_06_06_06_06_06_00,
+        1 => 0o22_22_06_14_06_14_00_06_06,
+        2 => 0o06_22_22_14_06_14_00_06_06,
+        3 => 0o06_22_22_06_14_14_00_06_06,
+        4 => 0o06_06_06_06_06_06_06_06_14,
+        5 => 0o06_06_06_06_06_06_06_06_30,
+        6 => 0o06_06_06_06_06_06_06_06_22,
+        7 => 0o06_06_06_06_06_06_06_06_36,
+        8 => 0o06_06_06_06_06_06_06_06_44,
+        9 => 0o06_06_06_06_06_06_06_06_52,
+        10 => 0o06_06_06_06_06_06_06_06_60,
+        11 => NO_ROW,
+        12 => NO_ROW,
+        13 => NO_ROW,
+        14 => NO_ROW,
+        15 => NO_ROW,
+        _ => NO_ROW,
     }
-    run(x, s, i, s.len(), &chart) % 64 == 0
+}
+
+// The machine reads a byte of this class.
+fn step(state: u64, class: u64) -> u64
+    requires { ⌜ State state ⌝ }
+    ensures { λ r. ⌜ Moves state class r ⌝ }
+{
+    moves(class) >> (state % 64)
+}
+
+// ---- the class of a byte
+
+// A chart of the bytes 00 to FF, sixteen to a line: bytes that no row of the table tells apart have one letter, and - stands for those in no row.
+// The low four bits of a letter number its class: p is 0, a is 1, and - is none of them.
+const CHART: [u8; 256] = *b"\
+    pppppppppppppppp\
+    pppppppppppppppp\
+    pppppppppppppppp\
+    pppppppppppppppp\
+    pppppppppppppppp\
+    pppppppppppppppp\
+    pppppppppppppppp\
+    pppppppppppppppp\
+    aaaaaaaaaaaaaaaa\
+    bbbbbbbbbbbbbbbb\
+    cccccccccccccccc\
+    cccccccccccccccc\
+    --dddddddddddddd\
+    dddddddddddddddd\
+    effffffffffffgff\
+    hiiij-----------";
+
+// By a chart that is laid out in memory.
+fn class_in(chart: &[u8; 256], byte: u8) -> u64
+    requires { ⌜ Chart (now chart) ⌝ }
+    ensures { λ r. ⌜ Alike byte r ⌝ }
+{
+    wide(chart[byte as usize])
 }
 
 // A line of the chart in one word: the classes of sixteen bytes, four bits each, the first lowest. F stands for no row.
@@ -192,13 +164,51 @@ fn line(high: u8) -> u64
     }
 }
 
+// By a line of the chart, with nothing laid out.
 fn class_of(byte: u8) -> u64
     ensures { λ r. ⌜ Alike byte r ⌝ }
 {
     line(byte / 16) >> (byte % 16 * 4)
 }
 
-// Whether s[from..] is well-formed, where few bytes are left: to lay out a chart would cost more than it saves.
+// ---- texts
+
+// The machine reads s[from..to].
+fn run(state: u64, s: &[u8], from: usize, to: usize, chart: &[u8; 256]) -> u64
+    requires { ⌜ State state × Chart (now chart) × (from ≤ to) × (to ≤ length (now s)) ⌝ }
+    ensures { λ r. ⌜ Reads (now (s .entry)) state from r to ⌝ }
+{
+    let mut x = state;
+    let mut i = from;
+    while i < to {
+        x = step(x, class_in(chart, s[i]));
+        i += 1;
+    }
+    x
+}
+
+// Whether s[from..] is well-formed. The chart is laid out here, which long texts earn back; texts of ASCII alone do not come this way.
+fn rest(s: &[u8], from: usize) -> bool
+    requires { ⌜ from ≤ length (now s) ⌝ }
+    ensures { λ r. ⌜ r ≡ wellFormed (drop from (now (s .entry))) ⌝ }
+{
+    let chart = CHART;
+    let mut x = 0;
+    let mut i = from;
+    while 8 <= s.len() - i {
+        x = run(x, s, i, i + 8, &chart);
+        if x % 64 == 6 {
+            return false;
+        }
+        i += 8;
+        if x % 64 == 0 {
+            i = past_ascii(s, i);
+        }
+    }
+    run(x, s, i, s.len(), &chart) % 64 == 0
+}
+
+// The same where few bytes are left, and laying out the chart would cost more than it saves.
 fn few(s: &[u8], from: usize) -> bool
     requires { ⌜ from ≤ length (now s) ⌝ }
     ensures { λ r. ⌜ r ≡ wellFormed (drop from (now (s .entry))) ⌝ }
