@@ -22,28 +22,45 @@ impl Numbers {
 
 const LETTERS: &str = "abcdefghijklmnopqrstuvwxyz ABCDEFGHIJKLMNOPQRSTUVWXYZ 0123456789.,-";
 const CJK: &str = "的一是不了人我在有他这中大来上个国和也子时道说出而得你日本語今日は漢字한국어사람";
-const MIXED: &str = "abcdefgh ijkl mnop qrst uvwxyz éàüñßøł ЖИТЬ 日本語中文한 🚀🧭🦀";
+const MIXED: [&str; 12] =
+    ["the part ", "scanned at ", "gate 4, ", "Łódź ", "Zürich ", "São Paulo ", "Москва ", "東京 ", "서울 ", "北京市 ", "ok ", "🚀 "];
 const NAMES: [&str; 16] = [
-    "José Martínez", "Zoë Müller", "Łukasz Żółtowski", "François Lefèvre", "Søren Ørsted", "Renée Dubois", "Jürgen Groß", "Žofie Nováková",
-    "Anna Nowak", "Mats Ångström", "Inês Gonçalves", "Dvořák", "Chloé", "Ana María Núñez", "Gökçe Yıldız", "John Smith",
+    "José Martínez",
+    "Zoë Müller",
+    "Łukasz Żółtowski",
+    "François Lefèvre",
+    "Søren Ørsted",
+    "Renée Dubois",
+    "Jürgen Groß",
+    "Žofie Nováková",
+    "Anna Nowak",
+    "Mats Ångström",
+    "Inês Gonçalves",
+    "Dvořák",
+    "Chloé",
+    "Ana María Núñez",
+    "Gökçe Yıldız",
+    "John Smith",
 ];
 
 /// Texts of `length` bytes, or a little less where the last character does not fit; as many as a pass has room for.
-fn texts(of: &str, length: usize) -> Vec<Vec<u8>> {
-    let characters: Vec<char> = of.chars().collect();
+fn texts(words: &[&str], length: usize) -> Vec<Vec<u8>> {
     let mut numbers = Numbers(0x9E37_79B9_7F4A_7C15);
     (0..PASS / length)
         .map(|_| {
             let mut text = String::new();
-            loop {
-                let next = characters[numbers.below(characters.len())];
-                if text.len() + next.len_utf8() > length {
-                    return text.into_bytes();
-                }
-                text.push(next);
+            while text.len() < length {
+                text += words[numbers.below(words.len())];
             }
+            text.truncate((0..=length).rev().find(|end| text.is_char_boundary(*end)).unwrap());
+            text.into_bytes()
         })
         .collect()
+}
+
+/// Words of one character.
+fn characters(of: &str) -> Vec<&str> {
+    of.split("").filter(|part| !part.is_empty()).collect()
 }
 
 fn names() -> Vec<Vec<u8>> {
@@ -58,17 +75,18 @@ fn damaged(mut texts: Vec<Vec<u8>>) -> Vec<Vec<u8>> {
 }
 
 pub fn cases(table: &mut Table) {
+    let (letters, cjk) = (characters(LETTERS), characters(CJK));
     for length in [8, 12, 20, 64, 4000] {
-        case(table, &format!("utf8 ASCII {length}"), texts(LETTERS, length));
+        case(table, &format!("utf8 ASCII {length}"), texts(&letters, length));
     }
     case(table, "utf8 Latin names", names());
     for length in [12, 64, 4000] {
-        case(table, &format!("utf8 CJK {length}"), texts(CJK, length));
-        case(table, &format!("utf8 mixed {length}"), texts(MIXED, length));
+        case(table, &format!("utf8 CJK {length}"), texts(&cjk, length));
+        case(table, &format!("utf8 mixed {length}"), texts(&MIXED, length));
     }
     for length in [12, 64, 4000] {
-        case(table, &format!("utf8 damaged ASCII {length}"), damaged(texts(LETTERS, length)));
-        case(table, &format!("utf8 damaged mixed {length}"), damaged(texts(MIXED, length)));
+        case(table, &format!("utf8 damaged ASCII {length}"), damaged(texts(&letters, length)));
+        case(table, &format!("utf8 damaged mixed {length}"), damaged(texts(&MIXED, length)));
     }
     case(table, "utf8 damaged names", damaged(names()));
 }

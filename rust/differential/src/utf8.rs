@@ -30,8 +30,30 @@ const EDGES: [u8; 26] = [
 
 /// First and last characters of each row of the table, and some of the middle.
 const CHARACTERS: [char; 24] = [
-    '\0', 'a', 'Z', ' ', '\u{7F}', '\u{80}', 'é', 'ł', 'Ж', '\u{7FF}', '\u{800}', '\u{FFF}', '\u{1000}', '中', '語', '\u{CFFF}', '\u{D7FF}',
-    '\u{E000}', '\u{FFFF}', '\u{10000}', '🚀', '\u{FFFFF}', '\u{100000}', '\u{10FFFF}',
+    '\0',
+    'a',
+    'Z',
+    ' ',
+    '\u{7F}',
+    '\u{80}',
+    'é',
+    'ł',
+    'Ж',
+    '\u{7FF}',
+    '\u{800}',
+    '\u{FFF}',
+    '\u{1000}',
+    '中',
+    '語',
+    '\u{CFFF}',
+    '\u{D7FF}',
+    '\u{E000}',
+    '\u{FFFF}',
+    '\u{10000}',
+    '🚀',
+    '\u{FFFFF}',
+    '\u{100000}',
+    '\u{10FFFF}',
 ];
 
 /// Texts of one kind, as long as they are to be (or a character longer).
