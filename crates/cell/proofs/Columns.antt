@@ -135,7 +135,7 @@ column-inside body map c at {e} h g = by (isNull body map c) g
     by false g = let (l, m) = block-inside body at {e = e} g in (omega arith, m)
 
 -- ---- the columns, one after another
-columns-step : (n c map : ℕ) (body : List ℕ) (at : ℕ) → columnsEnd (suc n) c map body at ≡ andThen (columnEnd body map c at) (λ next. columnsEnd n (c + 1) map body next)
+pub columns-step : (n c map : ℕ) (body : List ℕ) (at : ℕ) → columnsEnd (suc n) c map body at ≡ andThen (columnEnd body map c at) (λ next. columnsEnd n (c + 1) map body next)
 unfolding columnsEnd columnEnd columns andThen
 columns-step n c map body at = by (pick (isNull body map c) (gives (null, at)) (block body at))
   where

@@ -2,6 +2,8 @@ pub mod Entry
 pub mod Block
 pub mod Local
 pub mod Words
+pub mod ByColumn
+pub mod PaperValue
 pub mod Content
 pub mod ValueList
 pub mod Written

@@ -84,7 +84,7 @@ fn block_end(body: &[u8], at: usize) -> usize
 }
 
 // Whether column `c` is null, by the bitmap at `map`.
-fn is_null(body: &[u8], map: usize, c: usize) -> bool
+pub fn is_null(body: &[u8], map: usize, c: usize) -> bool
     requires { ⌜ map + c / 8 < length (now body) ⌝ }
     ensures { λ r. ⌜ r ≡ isNull (now (body .entry)) map c ⌝ }
 {

@@ -1,5 +1,6 @@
 // Cells: the port of cell.rs. One row per cell: an entry is its body's length and its body, and a body starts with a kind byte.
 pub mod inner;
+pub mod value;
 
 ghost use mathlib.Core.Path.{_≡_};
 ghost use lib.ListN.{drop};
