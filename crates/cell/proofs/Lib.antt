@@ -5,3 +5,12 @@ pub mod Peeks
 pub mod Heads
 pub mod Values
 pub mod ExactValue
+pub mod Placing
+pub mod Numbers
+pub mod Items
+pub mod Nulls
+pub mod Putting
+pub mod Judging
+pub mod Measuring
+pub mod Listed
+pub mod Writing

@@ -8,3 +8,4 @@ pub mod Content
 pub mod ValueList
 pub mod Written
 pub mod Paper
+pub mod Listing

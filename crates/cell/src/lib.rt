@@ -1,4 +1,5 @@
 // Cells: the port of cell.rs. One row per cell: an entry is its body's length and its body, and a body starts with a kind byte.
+pub mod encode;
 pub mod inner;
 pub mod value;
 
@@ -141,3 +142,4 @@ pub fn decode(buf: &[u8], pos: usize) -> Decoded
     }
     decode_from(&buf[pos..])
 }
+// Cells: the port of cell.rs.

@@ -24,17 +24,13 @@ pub fn u64_at(s: &[u8]) -> u64
     ensures { λ r. ⌜ r ≡ le 8 0 (now (s .entry)) ⌝ }
 {
     wide(s[0])
-        + 0x100
-            * (wide(s[1])
-                + 0x100
-                    * (wide(s[2])
-                        + 0x100
-                            * (wide(s[3])
-                                + 0x100
-                                    * (wide(s[4])
-                                        + 0x100
-                                            * (wide(s[5])
-                                                + 0x100 * (wide(s[6]) + 0x100 * wide(s[7])))))))
+        + wide(s[1]) * 0x100
+        + wide(s[2]) * 0x1_0000
+        + wide(s[3]) * 0x100_0000
+        + wide(s[4]) * 0x1_0000_0000
+        + wide(s[5]) * 0x100_0000_0000
+        + wide(s[6]) * 0x1_0000_0000_0000
+        + wide(s[7]) * 0x100_0000_0000_0000
 }
 
 pub fn put_u32(out: &mut [u8], v: u32)

@@ -1,0 +1,160 @@
+-- The null bitmap, from the kinds.
+-- Assumes nothing.
+use mathlib.Core.Path.{_≡_, refl, sym, _∙_, ap}
+use mathlib.Core.Bool.{Bool, true, false}
+use mathlib.Core.List.{List, [], _∷_}
+use Prim.Native.Nat.{ℕ, zero, suc, _+_, _-_, _*_, _/_, _^_, _≤_, _<_}
+use native.Mathlib.Nat.{pow-suc}
+use native.Mathlib.Omega.{arith}
+use lib.Dec.{eqb}
+use lib.ListN.{length, take, drop, getD, set, length-drop}
+use lib.Pow.{pow-mono}
+use lib.Seq.{drop-cons, drop-drop, drop-length, take-all}
+use mir.Syntax.{w8}
+use mir.Val.{Fits}
+use Rattle.paper.specs.Answer.{over, pick}
+use Rattle.paper.proofs.Laws.{paper}
+use Rattle.cell.specs.Block.{bitmapBytes}
+use Rattle.cell.specs.Listing.{kindBit, kindBits, kindMap}
+use Rattle.cell.proofs.Placing.{placing, rest-all, Storing, storing-start, storing-inside, storing-more, storing-done}
+
+-- ---- a byte: the last column first
+pub bit-null : (kind : ℕ) → kind ≡ 255 → 1 ≡ kindBit kind
+unfolding kindBit
+bit-null kind k = search paper
+
+pub bit-other : (kind : ℕ) → (kind ≡ 255 → ⊥) → 0 ≡ kindBit kind
+unfolding kindBit
+bit-other kind k = search paper
+
+bit-most : (kind : ℕ) → kindBit kind ≤ 1
+unfolding kindBit pick
+bit-most kind = by (eqb kind 255)
+  where
+    by : (t : Bool) → pick t 1 0 ≤ 1
+    by true = omega arith
+    by false = omega arith
+
+bits-below : (kinds : List ℕ) → kindBits kinds < 2 ^ length kinds
+unfolding kindBits
+bits-below [] = omega arith
+bits-below (kind ∷ kinds) =
+    let h : kindBits kinds < 2 ^ length kinds = bits-below kinds in
+    let p : 2 ^ suc (length kinds) ≡ 2 ^ length kinds * 2 = pow-suc 2 (length kinds) in
+    omega (arith, bit-most kind)
+
+pub record Nulls (kinds : List ℕ) (byte c : ℕ) : Type 0 where
+  pub few : length kinds ≤ 8
+  pub inside : c ≤ length kinds
+  pub same : byte ≡ kindBits (drop c kinds)
+
+pub nulls-start : (kinds : List ℕ) → length kinds ≤ 8 → Nulls kinds 0 (length kinds)
+unfolding kindBits
+nulls-start kinds l = record { few = l; inside = omega arith; same = rw (drop-length kinds) }
+
+module _ {kinds : List ℕ} {byte c : ℕ} (w : Nulls kinds byte c) where
+  pub nulls-end : c ≤ 0 → byte ≡ kindBits kinds
+  nulls-end h = let e : c ≡ 0 = omega arith in rw e at (w .same)
+
+  module _ (h : 0 < c) where
+    below : byte < 128
+    below =
+        let n : length (drop c kinds) ≤ 7 = rw (length-drop c kinds) (omega (arith, w .few)) in
+        let b : kindBits (drop c kinds) < 2 ^ length (drop c kinds) = bits-below (drop c kinds) in
+        let p : 2 ^ length (drop c kinds) ≤ 2 ^ 7 = pow-mono n in
+        let e : byte ≡ kindBits (drop c kinds) = w .same in
+        omega arith
+
+    pub nulls-inside : c - 1 < length kinds
+    nulls-inside = omega (arith, w .inside)
+
+    pub nulls-double : Fits w8 (2 * byte)
+    nulls-double = record { fits = omega (arith, below) }
+
+    module _ {b : ℕ} (e : b ≡ kindBit (getD kinds (c - 1) 0)) where
+      pub nulls-fit : Fits w8 (2 * byte + b)
+      nulls-fit = record { fits = omega (arith, below, bit-most (getD kinds (c - 1) 0)) }
+
+      pub nulls-more : Nulls kinds (2 * byte + b) (c - 1)
+      unfolding kindBits
+      nulls-more =
+          let s : suc (c - 1) ≡ c = omega arith in
+          let d : drop (c - 1) kinds ≡ getD kinds (c - 1) 0 ∷ drop c kinds
+          = drop-cons kinds (c - 1) 0 nulls-inside ∙ ap (λ (n : ℕ). getD kinds (c - 1) 0 ∷ drop n kinds) s in
+          let f : byte ≡ kindBits (drop c kinds) = w .same in
+          record { few = w .few; inside = omega (arith, w .inside); same = rw d (omega arith) }
+
+-- ---- a byte of the bitmap
+module _ (kinds : List ℕ) (b : ℕ) {r : ℕ} where
+  pub byte-last : length kinds - 8 * b < 8 → r ≡ kindBits (take (length kinds - 8 * b) (drop (8 * b) kinds)) → r ≡ kindBits (take 8 (drop (8 * b) kinds))
+  byte-last l e =
+      let t : take 8 (drop (8 * b) kinds) ≡ drop (8 * b) kinds = take-all 8 (drop (8 * b) kinds) (rw (length-drop (8 * b) kinds) (omega arith)) in
+      rw t (rw (rest-all kinds (8 * b)) at e)
+
+  pub byte-whole : r ≡ kindBits (take (8 * b + 8 - 8 * b) (drop (8 * b) kinds)) → r ≡ kindBits (take 8 (drop (8 * b) kinds))
+  byte-whole e = let d : 8 * b + 8 - 8 * b ≡ 8 = omega arith in rw d at e
+
+-- ---- the bitmap
+pub map-length : (n : ℕ) (kinds : List ℕ) → length (kindMap n kinds) ≡ n
+unfolding kindMap
+map-length zero kinds = refl
+map-length (suc n) kinds = ap suc (map-length n (drop 8 kinds))
+
+map-at : (n b : ℕ) (kinds : List ℕ) → b < n → getD (kindMap n kinds) b 0 ≡ kindBits (take 8 (drop (8 * b) kinds))
+unfolding kindMap
+map-at zero b kinds h = absurd (omega arith)
+map-at (suc n) zero kinds h = refl
+map-at (suc n) (suc b) kinds h =
+    let e : 8 * suc b ≡ 8 + 8 * b = omega arith in
+    rw (e, ← drop-drop (8 * b) 8 kinds) (map-at n b (drop 8 kinds) (omega arith))
+
+pub bitmap-size : {r : ℕ} (columns : ℕ) → r ≡ (columns + 7) / 8 → r ≡ bitmapBytes columns
+unfolding bitmapBytes
+bitmap-size columns e = e
+
+-- the loop over its bytes
+pub record Mapping (out₀ kinds : List ℕ) (size : ℕ) (out : List ℕ) (b : ℕ) : Type 0 where
+  pub sized : size ≡ bitmapBytes (length kinds)
+  pub storing : Storing out₀ (kindMap size kinds) out b
+
+pub mapping-start : {out kinds : List ℕ} {size : ℕ} → size ≡ bitmapBytes (length kinds) → bitmapBytes (length kinds) ≤ length out → Mapping out kinds size out 0
+mapping-start {out} {kinds} {size} e l =
+    record { sized = e; storing = storing-start out (kindMap size kinds) (rw (map-length size kinds) (omega arith)) }
+
+module _ {out₀ kinds out : List ℕ} {size b : ℕ} (w : Mapping out₀ kinds size out b) where
+  pub mapping-done : size ≤ b → out ≡ over out₀ (kindMap (bitmapBytes (length kinds)) kinds)
+  mapping-done h = rw (w .sized) at (storing-done (w .storing) (rw (map-length size kinds) h))
+
+  module _ (h : b < size) where
+    inside : b < length (kindMap size kinds)
+    inside = rw (map-length size kinds) h
+
+    pub mapping-from : 8 * b ≤ length kinds
+    unfolding bitmapBytes
+    mapping-from = omega (arith, w .sized)
+
+    pub mapping-inside : b < length out
+    mapping-inside = storing-inside (w .storing) inside
+
+    pub mapping-more : {v : ℕ} → v ≡ kindBits (take 8 (drop (8 * b) kinds)) → Mapping out₀ kinds size (set out b v) (b + 1)
+    mapping-more e = record { sized = w .sized; storing = storing-more (w .storing) inside (e ∙ sym (map-at size b kinds h)) }
+
+pub ruleset nulls = (
+  placing,
+  bit-null,
+  bit-other,
+  nulls-start,
+  nulls-end,
+  nulls-inside,
+  nulls-double,
+  nulls-fit,
+  nulls-more,
+  byte-last,
+  byte-whole,
+  bitmap-size,
+  mapping-start,
+  mapping-done,
+  mapping-from,
+  mapping-inside,
+  mapping-more,
+)

@@ -1,0 +1,10 @@
+-- `cell::encode::text_refusal` meets its contract. Assumes nothing.
+use Rattle.cell.proofs.Judging.{judging}
+use Rattle.cell.proofs.encode.text_refusal.Statement.{statement}
+use Rattle.cell.proofs.encode.text_refusal.Tie as tie
+
+pub text-refusal-spec : {M : Type 1} → statement M
+text-refusal-spec =
+    tie.close
+    (tie.spec
+    (λ c κs. search judging) (λ c. search judging) (λ c. search judging) (λ c. search judging) (λ c. search judging))

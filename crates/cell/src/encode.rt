@@ -1,0 +1,492 @@
+// Writing a local entry from its value list: the port of `Cell::encode`.
+ghost use mathlib.Core.Path.{_≡_};
+ghost use mathlib.Core.List.{[], _∷_, _++_};
+ghost use Prim.Native.Nat.{_+_, _*_, _/_, _≤_, _<_};
+ghost use lib.Dec.{eqb};
+ghost use lib.ListN.{length, take, drop, getD};
+ghost use mir.Syntax.{w64};
+ghost use mir.Val.{toZ};
+ghost use Rattle.paper.specs.Answer.{over, pick, put, sizeOf};
+ghost use Rattle.varint.specs.Leb.{lebBytes};
+ghost use Rattle.varint.specs.Zigzag.{zigzag};
+ghost use Rattle.varint.specs.Paper.{paperWrote};
+ghost use Rattle.cell.specs.Block.{bitmapBytes};
+ghost use Rattle.cell.specs.Written.{blockBytes, blocksBytes, encoded, writeCell};
+ghost use Rattle.cell.specs.ValueList.{items};
+ghost use Rattle.utf8.specs.WellFormed.{checkText};
+ghost use Rattle.cell.specs.Listing.{wordList, used, held, payload, blockLen, usedAll, heldAll, kindBit, kindBits, kindMap, judged, Judged, blocksLen, headOf, columnsOf, bodyOf, Good, Measures};
+
+const KIND_LOCAL: u8 = 1;
+
+// The value tags, which are the kinds of a value list; a null's kind is 255, and 5 stands for a `Value::Null` inside a value.
+const INTEGER: u8 = 0;
+
+const REAL: u8 = 1;
+
+const TEXT: u8 = 2;
+
+const BOOL: u8 = 3;
+
+const VECTOR: u8 = 4;
+
+const INNER_NULL: u8 = 5;
+
+const NULL: u8 = 255;
+
+// The largest value list: columns, and bytes of data.
+const MAX_COLUMNS: usize = 65536;
+
+const MAX_DATA: usize = 16777216;
+
+// Word i of the words that are lent as bytes.
+fn word_at(words: &[u8], i: usize) -> u64
+    requires { ⌜ i < length (now words) / 8 ⌝ }
+    ensures { λ r. ⌜ r ≡ getD (wordList (now (words .entry))) i 0 ⌝ }
+{
+    field::inner::u64_at(&words[8 * i..])
+}
+
+// The data bytes that a column takes.
+fn data_used(kind: u8, word: u64) -> usize
+    requires { ⌜ used kind word < 0x1_0000_0000_0000_0000 ⌝ }
+    ensures { λ r. ⌜ r ≡ used kind word ⌝ }
+{
+    if kind == TEXT {
+        return word as usize;
+    }
+    if kind == VECTOR {
+        return 4 * word as usize;
+    }
+    0
+}
+
+// The ZigZag number of the signed number whose 64 bits these are.
+fn zigzag_bits(bits: u64) -> u64
+    ensures { λ r. ⌜ r ≡ zigzag (toZ w64 bits) ⌝ }
+{
+    let doubled = std::num::wrapping_add_u64(bits, bits);
+    if bits < 0x8000_0000_0000_0000 {
+        doubled
+    } else {
+        !doubled
+    }
+}
+
+// ---- the first reading: each column is judged and measured
+
+// The bytes of a varint; one is the common case.
+fn varint_len(value: u64) -> usize
+    ensures { λ r. ⌜ (r ≡ length (lebBytes value)) × (r ≤ 10) ⌝ }
+{
+    if value < 128 {
+        return 1;
+    }
+    varint::u64_len(value)
+}
+
+fn block_len(kind: u8, word: u64) -> usize
+    requires { ⌜ used kind word ≤ 16777216 ⌝ }
+    ensures { λ r. ⌜ (r ≡ blockLen kind word) × (r ≤ 11 + used kind word) ⌝ }
+{
+    if VECTOR < kind {
+        return 0;
+    }
+    if kind == INTEGER {
+        return 1 + varint_len(zigzag_bits(word));
+    }
+    if kind == REAL {
+        return 9;
+    }
+    if kind == BOOL {
+        return 2;
+    }
+    1 + varint_len(word) + data_used(kind, word)
+}
+
+// 8, or 0 where the bytes are a text.
+fn text_refusal(s: &[u8]) -> u8
+    ensures { λ r. ⌜ judged r tt ≡ checkText (now (s .entry)) ⌝ }
+{
+    match utf8::check(s) {
+        utf8::Checked::Text => 0,
+        utf8::Checked::Refused(_) => 8,
+    }
+}
+
+// A column's refusal, or 0. Its data starts at from.
+fn column_refusal(kind: u8, word: u64, data: &[u8], from: usize) -> u8
+    requires { ⌜ from ≤ length (now «data») ⌝ }
+    ensures { λ r. ⌜ Judged kind word (drop from (now («data» .entry))) r ⌝ }
+{
+    if kind == INTEGER {
+        return 0;
+    }
+    if kind == REAL {
+        return 0;
+    }
+    if kind == TEXT {
+        if data.len() - from < word as usize {
+            return 15;
+        }
+        let to = from + word as usize;
+        return text_refusal(&data[from..to]);
+    }
+    if kind == BOOL {
+        if 1 < word {
+            return 15;
+        }
+        return 0;
+    }
+    if kind == VECTOR {
+        if (data.len() - from) / 4 < word as usize {
+            return 15;
+        }
+        return 0;
+    }
+    if kind == INNER_NULL {
+        return 27;
+    }
+    if kind == NULL {
+        if word == 0 {
+            return 0;
+        }
+        return 15;
+    }
+    15
+}
+
+// A refusal's number, 0 where there is none; and a length.
+struct Measured {
+    refusal: u8,
+    bytes: usize,
+}
+
+// The value blocks of all columns.
+fn measure_blocks(kinds: &[u8], words: &[u8], data: &[u8]) -> Measured
+    requires { ⌜ length (now kinds) ≡ length (now words) / 8 ⌝ }
+    requires { ⌜ length (now kinds) ≤ 65536 ⌝ }
+    requires { ⌜ length (now «data») ≤ 16777216 ⌝ }
+    ensures { λ r. ⌜ judged (r .refusal) (r .bytes) ≡ blocksLen (items (now (kinds .entry)) (wordList (now (words .entry))) (now («data» .entry))) ⌝ }
+    ensures { λ r. ⌜ r .bytes ≤ 17498112 ⌝ }
+{
+    let mut i: usize = 0;
+    let mut from: usize = 0;
+    let mut bytes: usize = 0;
+    while i < kinds.len() {
+        let kind = kinds[i];
+        let word = word_at(words, i);
+        let refusal = column_refusal(kind, word, data, from);
+        if refusal != 0 {
+            return Measured { refusal, bytes: 0 };
+        }
+        bytes += block_len(kind, word);
+        from += data_used(kind, word);
+        i += 1;
+    }
+    if from < data.len() {
+        return Measured {
+            refusal: 15,
+            bytes: 0,
+        };
+    }
+    Measured { refusal: 0, bytes }
+}
+
+// The whole list, and the length of the body that it makes with the rowid's ZigZag number.
+fn measure(id: u64, kinds: &[u8], words: &[u8], data: &[u8]) -> Measured
+    ensures { λ r. ⌜ Measures id (now (kinds .entry)) (now (words .entry)) (now («data» .entry)) (r .refusal) (r .bytes) ⌝ }
+{
+    if 0 < words.len() % 8 {
+        return Measured {
+            refusal: 25,
+            bytes: 0,
+        };
+    }
+    if MAX_COLUMNS < kinds.len() {
+        return Measured {
+            refusal: 25,
+            bytes: 0,
+        };
+    }
+    if MAX_COLUMNS < words.len() / 8 {
+        return Measured {
+            refusal: 25,
+            bytes: 0,
+        };
+    }
+    if MAX_DATA < data.len() {
+        return Measured {
+            refusal: 25,
+            bytes: 0,
+        };
+    }
+    if kinds.len() != words.len() / 8 {
+        return Measured {
+            refusal: 15,
+            bytes: 0,
+        };
+    }
+    let blocks = measure_blocks(kinds, words, data);
+    if blocks.refusal != 0 {
+        return Measured {
+            refusal: blocks.refusal,
+            bytes: 0,
+        };
+    }
+    let head = 1 + (varint_len(id) + varint_len(kinds.len() as u64));
+    let columns = bitmap_bytes(kinds.len()) + blocks.bytes;
+    Measured {
+        refusal: 0,
+        bytes: head + columns,
+    }
+}
+
+// ---- writers: each writes its bytes from the start of an output that has room, and answers how many
+
+fn put_byte(out: &mut [u8], byte: u8)
+    requires { ⌜ 0 < length (now out) ⌝ }
+    ensures { λ _. ⌜ (now (out .exit) ≡ over (now (out .entry)) (byte ∷ [])) × (0 < length (now (out .exit))) ⌝ }
+{
+    out[0] = byte;
+}
+
+// As `varint::write_u64`, which asks for the room again and answers an enum.
+fn put_varint(out: &mut [u8], value: u64) -> usize
+    requires { ⌜ length (lebBytes value) ≤ length (now out) ⌝ }
+    ensures { λ r. ⌜ r ≡ length (lebBytes value) ⌝ }
+    ensures { λ _. ⌜ now (out .exit) ≡ over (now (out .entry)) (lebBytes value) ⌝ }
+{
+    let mut v = value;
+    let mut i: usize = 0;
+    while 128 <= v {
+        out[i] = (128 + v % 128) as u8;
+        v = v / 128;
+        i += 1;
+    }
+    out[i] = v as u8;
+    i + 1
+}
+
+fn copy(out: &mut [u8], src: &[u8])
+    requires { ⌜ length (now src) ≤ length (now out) ⌝ }
+    ensures { λ _. ⌜ now (out .exit) ≡ over (now (out .entry)) (now (src .entry)) ⌝ }
+{
+    let mut i: usize = 0;
+    while i < src.len() {
+        out[i] = src[i];
+        i += 1;
+    }
+}
+
+// A number, and bytes behind it.
+fn put_counted(out: &mut [u8], count: u64, src: &[u8]) -> usize
+    requires { ⌜ length (lebBytes count) + length (now src) ≤ length (now out) ⌝ }
+    ensures { λ r. ⌜ r ≡ length (lebBytes count) + length (now (src .entry)) ⌝ }
+    ensures { λ _. ⌜ now (out .exit) ≡ over (now (out .entry)) (lebBytes count ++ now (src .entry)) ⌝ }
+{
+    let n = put_varint(out, count);
+    copy(&mut out[n..], src);
+    n + src.len()
+}
+
+fn bool_byte(word: u64) -> u8
+    ensures { λ r. ⌜ r ≡ pick (eqb word 1) 1 0 ⌝ }
+{
+    if word == 1 { 1 } else { 0 }
+}
+
+// A column's value block after its tag.
+fn put_payload(out: &mut [u8], kind: u8, word: u64, data: &[u8], from: usize) -> usize
+    requires { ⌜ from + used kind word ≤ length (now «data») ⌝ }
+    requires { ⌜ length (payload kind word (drop from (now «data»))) ≤ length (now out) ⌝ }
+    ensures { λ r. ⌜ r ≡ length (payload kind word (drop from (now («data» .entry)))) ⌝ }
+    ensures { λ _. ⌜ now (out .exit) ≡ over (now (out .entry)) (payload kind word (drop from (now («data» .entry)))) ⌝ }
+{
+    if kind == INTEGER {
+        return put_varint(out, zigzag_bits(word));
+    }
+    if kind == REAL {
+        field::inner::put_u64(out, word);
+        return 8;
+    }
+    if kind == BOOL {
+        out[0] = bool_byte(word);
+        return 1;
+    }
+    let to = from + data_used(kind, word);
+    put_counted(out, word, &data[from..to])
+}
+
+// A column's value block, tag first. A null has none.
+fn put_block(out: &mut [u8], kind: u8, word: u64, data: &[u8], from: usize) -> usize
+    requires { ⌜ from + used kind word ≤ length (now «data») ⌝ }
+    requires { ⌜ length (blockBytes (held kind word (drop from (now «data»)))) ≤ length (now out) ⌝ }
+    ensures { λ r. ⌜ r ≡ length (blockBytes (held kind word (drop from (now («data» .entry))))) ⌝ }
+    ensures { λ _. ⌜ now (out .exit) ≡ over (now (out .entry)) (blockBytes (held kind word (drop from (now («data» .entry))))) ⌝ }
+{
+    if VECTOR < kind {
+        return 0;
+    }
+    put_byte(out, kind);
+    1 + put_payload(&mut out[1..], kind, word, data, from)
+}
+
+// The value blocks of all columns.
+fn put_blocks(out: &mut [u8], kinds: &[u8], words: &[u8], data: &[u8])
+    requires { ⌜ length (now kinds) ≡ length (now words) / 8 ⌝ }
+    requires { ⌜ usedAll (now kinds) (wordList (now words)) ≤ length (now «data») ⌝ }
+    requires { ⌜ length (blocksBytes (heldAll (now kinds) (wordList (now words)) (now «data»))) ≤ length (now out) ⌝ }
+    ensures { λ _. ⌜ now (out .exit) ≡ over (now (out .entry)) (blocksBytes (heldAll (now (kinds .entry)) (wordList (now (words .entry))) (now («data» .entry)))) ⌝ }
+{
+    let mut i: usize = 0;
+    let mut from: usize = 0;
+    let mut at: usize = 0;
+    while i < kinds.len() {
+        let kind = kinds[i];
+        let word = word_at(words, i);
+        at += put_block(&mut out[at..], kind, word, data, from);
+        from += data_used(kind, word);
+        i += 1;
+    }
+}
+
+// ---- the null bitmap
+
+fn null_bit(kind: u8) -> u8
+    ensures { λ r. ⌜ r ≡ kindBit kind ⌝ }
+{
+    if kind == NULL { 1 } else { 0 }
+}
+
+// The byte of at most eight columns, the first lowest.
+fn null_bits(kinds: &[u8]) -> u8
+    requires { ⌜ length (now kinds) ≤ 8 ⌝ }
+    ensures { λ r. ⌜ r ≡ kindBits (now (kinds .entry)) ⌝ }
+{
+    let mut byte: u8 = 0;
+    let mut c = kinds.len();
+    while 0 < c {
+        c -= 1;
+        byte = 2 * byte + null_bit(kinds[c]);
+    }
+    byte
+}
+
+// Byte b of the bitmap.
+fn null_byte(kinds: &[u8], b: usize) -> u8
+    requires { ⌜ 8 * b ≤ length (now kinds) ⌝ }
+    ensures { λ r. ⌜ r ≡ kindBits (take 8 (drop (8 * b) (now (kinds .entry)))) ⌝ }
+{
+    let from = 8 * b;
+    if kinds.len() - from < 8 {
+        return null_bits(&kinds[from..]);
+    }
+    let to = from + 8;
+    null_bits(&kinds[from..to])
+}
+
+fn bitmap_bytes(columns: usize) -> usize
+    requires { ⌜ columns ≤ 65536 ⌝ }
+    ensures { λ r. ⌜ (r ≡ bitmapBytes columns) × (r ≤ 8192) ⌝ }
+{
+    (columns + 7) / 8
+}
+
+fn put_bitmap(out: &mut [u8], kinds: &[u8]) -> usize
+    requires { ⌜ length (now kinds) ≤ 65536 ⌝ }
+    requires { ⌜ bitmapBytes (length (now kinds)) ≤ length (now out) ⌝ }
+    ensures { λ r. ⌜ r ≡ bitmapBytes (length (now (kinds .entry))) ⌝ }
+    ensures { λ _. ⌜ now (out .exit) ≡ over (now (out .entry)) (kindMap (bitmapBytes (length (now (kinds .entry)))) (now (kinds .entry))) ⌝ }
+{
+    let size = bitmap_bytes(kinds.len());
+    let mut b: usize = 0;
+    while b < size {
+        out[b] = null_byte(kinds, b);
+        b += 1;
+    }
+    size
+}
+
+// ---- the entry
+
+// Two varints.
+fn put_pair(out: &mut [u8], first: u64, second: u64) -> usize
+    requires { ⌜ length (lebBytes first) + length (lebBytes second) ≤ length (now out) ⌝ }
+    ensures { λ r. ⌜ r ≡ length (lebBytes first) + length (lebBytes second) ⌝ }
+    ensures { λ _. ⌜ now (out .exit) ≡ over (now (out .entry)) (lebBytes first ++ lebBytes second) ⌝ }
+{
+    let n = put_varint(out, first);
+    n + put_varint(&mut out[n..], second)
+}
+
+// The kind byte, the rowid's ZigZag number, and the column count.
+fn put_head(out: &mut [u8], id: u64, columns: u64) -> usize
+    requires { ⌜ 1 + (length (lebBytes id) + length (lebBytes columns)) ≤ length (now out) ⌝ }
+    ensures { λ r. ⌜ r ≡ 1 + (length (lebBytes id) + length (lebBytes columns)) ⌝ }
+    ensures { λ _. ⌜ now (out .exit) ≡ over (now (out .entry)) (headOf id columns) ⌝ }
+{
+    put_byte(out, KIND_LOCAL);
+    1 + put_pair(&mut out[1..], id, columns)
+}
+
+// The bitmap and the value blocks.
+fn put_columns(out: &mut [u8], kinds: &[u8], words: &[u8], data: &[u8])
+    requires { ⌜ (length (now kinds) ≡ length (now words) / 8) × (length (now kinds) ≤ 65536) ⌝ }
+    requires { ⌜ usedAll (now kinds) (wordList (now words)) ≤ length (now «data») ⌝ }
+    requires { ⌜ bitmapBytes (length (now kinds)) + length (blocksBytes (heldAll (now kinds) (wordList (now words)) (now «data»))) ≤ length (now out) ⌝ }
+    ensures { λ _. ⌜ now (out .exit) ≡ over (now (out .entry)) (columnsOf (now (kinds .entry)) (now (words .entry)) (now («data» .entry))) ⌝ }
+{
+    let n = put_bitmap(out, kinds);
+    put_blocks(&mut out[n..], kinds, words, data);
+}
+
+// The body of a good list.
+fn put_body(out: &mut [u8], size: usize, id: u64, kinds: &[u8], words: &[u8], data: &[u8])
+    requires { ⌜ Good id (now kinds) (now words) (now «data») size ⌝ }
+    requires { ⌜ size ≤ length (now out) ⌝ }
+    ensures { λ _. ⌜ now (out .exit) ≡ over (now (out .entry)) (bodyOf id (now (kinds .entry)) (now (words .entry)) (now («data» .entry))) ⌝ }
+{
+    let n = put_head(out, id, kinds.len() as u64);
+    put_columns(&mut out[n..], kinds, words, data);
+}
+
+// The body's length, and the body.
+fn put_entry(out: &mut [u8], size: usize, id: u64, kinds: &[u8], words: &[u8], data: &[u8])
+    requires { ⌜ Good id (now kinds) (now words) (now «data») size ⌝ }
+    requires { ⌜ length (lebBytes size) + size ≤ length (now out) ⌝ }
+    ensures { λ _. ⌜ now (out .exit) ≡ over (now (out .entry)) (lebBytes size ++ bodyOf id (now (kinds .entry)) (now (words .entry)) (now («data» .entry))) ⌝ }
+{
+    let n = put_varint(out, size as u64);
+    put_body(&mut out[n..], size, id, kinds, words, data);
+}
+
+// Writes the entry of a value list: its kinds, its words of eight bytes each, and its data. A refused write changes no byte.
+pub fn encode(rowid: i64, kinds: &[u8], words: &[u8], data: &[u8], out: &mut [u8]) -> varint::Wrote
+    ensures { λ r. ⌜ paperWrote r ≡ sizeOf (writeCell rowid (now (kinds .entry)) (now (words .entry)) (now («data» .entry)) (length (now (out .entry)))) ⌝ }
+    ensures { λ _. ⌜ now (out .exit) ≡ put (now (out .entry)) (writeCell rowid (now (kinds .entry)) (now (words .entry)) (now («data» .entry)) (length (now (out .entry)))) ⌝ }
+{
+    let id = varint::zigzag_encode(rowid);
+    let body = measure(id, kinds, words, data);
+    if body.refusal != 0 {
+        return varint::Wrote::Refused(body.refusal);
+    }
+    let size = body.bytes;
+    let bytes = varint_len(size as u64) + size;
+    if out.len() < bytes {
+        return varint::Wrote::Refused(16);
+    }
+    put_entry(out, size, id, kinds, words, data);
+    varint::Wrote::Bytes(bytes)
+}
+
+// The length that `encode` would write.
+pub fn encoded_len(rowid: i64, kinds: &[u8], words: &[u8], data: &[u8]) -> varint::Wrote
+    ensures { λ r. ⌜ paperWrote r ≡ sizeOf (encoded rowid (now (kinds .entry)) (now (words .entry)) (now («data» .entry))) ⌝ }
+{
+    let body = measure(varint::zigzag_encode(rowid), kinds, words, data);
+    if body.refusal != 0 {
+        return varint::Wrote::Refused(body.refusal);
+    }
+    let size = body.bytes;
+    varint::Wrote::Bytes(varint_len(size as u64) + size)
+}
