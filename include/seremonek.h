@@ -52,6 +52,11 @@ uint64_t smk_i64_len(int64_t value);
 uint64_t smk_zigzag_encode(int64_t value);
 int64_t smk_zigzag_decode(uint64_t value);
 
+/* Text: well-formed UTF-8, by Table 3-7 of the Unicode Standard. */
+
+/* Whether all of `bytes` is text; no bytes are. Refusal 8. */
+uint32_t smk_utf8_check(const uint8_t *bytes, size_t bytes_len);
+
 #ifdef __cplusplus
 }
 #endif

@@ -3,11 +3,13 @@
 // Each layer has a module of its own, and its lines here.
 mod numbers;
 mod print;
+mod texts;
 
 fn main() {
     unsigned();
     signed();
     limits();
+    text();
 }
 
 fn unsigned() {
@@ -51,4 +53,12 @@ fn limits() {
     numbers::length_around(49);
     numbers::length_around(56);
     numbers::length_around(63);
+}
+
+// The corners of Table 3-7: 0 in two bytes, the first surrogate, the first number past the last scalar value, and the last one.
+fn text() {
+    texts::check(b"\xC0\x80");
+    texts::check(b"\xED\xA0\x80");
+    texts::check(b"\xF4\x90\x80\x80");
+    texts::check(b"\xF4\x8F\xBF\xBF");
 }

@@ -9,6 +9,11 @@ pub const ROOM: usize = 0x4000;
 // Stands in an answer array before a call, and after one that is refused.
 pub const UNTOUCHED: u64 = 0xA5A5_5A5A_C3C3_3C3C;
 
+// The result `code` of a call that has no answer array, against the field `k`.
+pub fn code_agrees(text: &[u8], line: usize, k: usize, code: u32) -> bool {
+    number(text, field(text, line, k)) == code as u64
+}
+
 // One for each length of an answer array: an array's length is known where it is lent as an array, and would be asked for where it is lent as a slice.
 pub fn one_agrees(text: &[u8], line: usize, k: usize, code: u32, answer: &[u64; 1]) -> bool {
     answer_agrees(text, line, k, code, answer)

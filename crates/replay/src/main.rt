@@ -4,6 +4,7 @@
 // A file of data/ holds one layer. A new layer adds its module of calls, an arm in `calls`, `replayed` and `print_name`, and a line in `main`.
 mod answers;
 mod fields;
+mod text_calls;
 mod varint_calls;
 
 use libc::STDOUT_FILENO;
@@ -11,10 +12,13 @@ use libc::STDOUT_FILENO;
 // Layers, by number.
 const VARINT: u8 = 0;
 
+const UTF8: u8 = 1;
+
 // How many calls a layer has. They are numbered from 1 on.
 fn calls(layer: u8) -> usize {
     match layer {
         VARINT => varint_calls::CALLS,
+        UTF8 => text_calls::CALLS,
         _ => 0,
     }
 }
@@ -23,6 +27,7 @@ fn calls(layer: u8) -> usize {
 fn replayed(layer: u8, call: usize, text: &[u8], line: usize) -> bool {
     match layer {
         VARINT => varint_calls::replayed(call, text, line),
+        UTF8 => text_calls::replayed(call, text, line),
         _ => false,
     }
 }
@@ -30,6 +35,7 @@ fn replayed(layer: u8, call: usize, text: &[u8], line: usize) -> bool {
 fn print_name(layer: u8, call: usize) {
     match layer {
         VARINT => varint_calls::print_name(call),
+        UTF8 => text_calls::print_name(call),
         _ => {}
     }
 }
@@ -134,6 +140,7 @@ fn replay(layer: u8, path: &[u8], total: &mut [u64; 2]) {
 fn main() {
     let mut total = [0u64; 2];
     replay(VARINT, b"varint.txt", &mut total);
+    replay(UTF8, b"utf8.txt", &mut total);
     io::write_all(STDOUT_FILENO, b"total ");
     print_counts(total[0], total[1]);
 }

@@ -1,2 +1,4 @@
 pub mod Words
 pub mod Numbers
+pub mod Texts
+pub mod Entries

@@ -25,5 +25,11 @@ unfoldable pub two : ℕ × ℕ → List ℕ
 two (a, b) = a ∷ b ∷ []
 
 -- a signed number is its 64-bit pattern
+unfoldable pub signedOne : ℤ → List ℕ
+signedOne z = ofZ w64 z ∷ []
+
 unfoldable pub signedTwo : ℤ × ℕ → List ℕ
 signedTwo (z, n) = ofZ w64 z ∷ n ∷ []
+
+unfoldable pub signedThree : ℤ × ℕ × ℕ → List ℕ
+signedThree (z, m, n) = ofZ w64 z ∷ m ∷ n ∷ []

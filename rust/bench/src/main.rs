@@ -17,6 +17,8 @@ fn main() {
 #[cfg(not(oracle_missing))]
 mod timing;
 #[cfg(not(oracle_missing))]
+mod utf8;
+#[cfg(not(oracle_missing))]
 mod varint;
 
 #[cfg(not(oracle_missing))]
@@ -36,4 +38,5 @@ fn main() {
     }
     let mut table = timing::Table::new(rounds, names);
     varint::cases(&mut table);
+    utf8::cases(&mut table);
 }

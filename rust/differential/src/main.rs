@@ -27,11 +27,13 @@ mod record;
 #[cfg(not(oracle_missing))]
 mod run;
 #[cfg(not(oracle_missing))]
+mod utf8;
+#[cfg(not(oracle_missing))]
 mod varint;
 
 /// Lowest first.
 #[cfg(not(oracle_missing))]
-const LAYERS: &[frame::Layer] = &[varint::LAYER];
+const LAYERS: &[frame::Layer] = &[varint::LAYER, utf8::LAYER];
 
 #[cfg(not(oracle_missing))]
 fn main() {

@@ -13,6 +13,8 @@ pub mod error;
 #[cfg(not(oracle_missing))]
 pub mod texts;
 #[cfg(not(oracle_missing))]
+pub mod utf8;
+#[cfg(not(oracle_missing))]
 pub mod varint;
 
 #[cfg(not(oracle_missing))]

@@ -13,4 +13,7 @@ unsafe extern "C" {
     pub fn smk_i64_len(value: i64) -> u64;
     pub fn smk_zigzag_encode(value: i64) -> u64;
     pub fn smk_zigzag_decode(value: u64) -> i64;
+
+    // utf8
+    pub fn smk_utf8_check(bytes: *const u8, bytes_len: usize) -> u32;
 }

@@ -6,6 +6,7 @@
 
 pub mod ffi;
 mod refusal;
+pub mod utf8;
 pub mod varint;
 
 pub use refusal::Refusal;

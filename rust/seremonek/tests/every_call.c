@@ -44,7 +44,18 @@ static void varint(void) {
     EXPECT(smk_zigzag_decode(UINT64_MAX) == INT64_MIN && smk_zigzag_decode(128) == 64);
 }
 
+static void utf8(void) {
+    const uint8_t last[4] = {0xF4, 0x8F, 0xBF, 0xBF};
+    const uint8_t past_the_last[4] = {0xF4, 0x90, 0x80, 0x80};
+
+    EXPECT(smk_utf8_check(last, 4) == 0);
+    EXPECT(smk_utf8_check(last, 3) == 8);
+    EXPECT(smk_utf8_check(last, 0) == 0);
+    EXPECT(smk_utf8_check(past_the_last, 4) == 8);
+}
+
 int main(void) {
     varint();
+    utf8();
     return failed;
 }
