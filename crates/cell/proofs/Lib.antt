@@ -7,3 +7,4 @@ pub mod Judging
 pub mod Measuring
 pub mod Listed
 pub mod Writing
+pub mod Reread
