@@ -7,3 +7,6 @@ pub mod Judging
 pub mod Measuring
 pub mod Listed
 pub mod Writing
+pub mod Lengths
+pub mod Reread
+pub mod WrittenRead
