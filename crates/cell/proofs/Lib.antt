@@ -16,3 +16,6 @@ pub mod Measuring
 pub mod Listed
 pub mod Writing
 pub mod KeyWriting
+pub mod Lengths
+pub mod Reread
+pub mod WrittenRead

@@ -21,7 +21,7 @@ use Rattle.cell.specs.Block.{bitmapBytes}
 use Rattle.cell.specs.Content.{Content}
 use Rattle.cell.specs.ValueList.{items, valueList}
 use Rattle.cell.specs.Written.{blocksBytes, bodyBytes, entryBytes, encoded, writeCell}
-use Rattle.cell.specs.Listing.{wordList, heldAll, kindMap, judged, blocksLen, headOf, columnsOf, bodyOf, Good, Measures}
+use Rattle.cell.specs.Listing.{wordList, heldAll, kindMap, judged, blocksLen, headOf, columnsOf, bodyOf, bodySize, Good, Measures}
 use Rattle.cell.proofs.Placing.{then-over}
 use Rattle.cell.proofs.Nulls.{nulls, map-length}
 use Rattle.cell.proofs.Putting.{putting}
@@ -131,6 +131,10 @@ module _ (kinds words rest : List ℕ) where
     unfolding bodyOf
     body-length = length-append (headOf id (length kinds)) (columnsOf kinds words rest) ∙ sum-is
 
+    -- the size by its sum
+    pub good-sum : Good id kinds words rest (bodySize id kinds words rest)
+    good-sum = rw (g .sum) at g
+
     module _ (out x new : List ℕ) (n : ℕ) where
       pub body-output : x ≡ over out (headOf id (length kinds)) → n ≡ 1 + (length (lebBytes id) + length (lebBytes (length kinds)))
           → new ≡ over (take (length x - n) (drop n x)) (columnsOf kinds words rest) → size ≤ length out
@@ -233,6 +237,7 @@ pub ruleset writing = (
   list-good,
   head-output,
   columns-output,
+  good-sum,
   body-output,
   entry-output,
   entry-good,

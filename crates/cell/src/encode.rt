@@ -14,7 +14,7 @@ ghost use Rattle.cell.specs.Block.{bitmapBytes};
 ghost use Rattle.cell.specs.Written.{blockBytes, blocksBytes, encoded, writeCell};
 ghost use Rattle.cell.specs.ValueList.{items};
 ghost use Rattle.utf8.specs.WellFormed.{checkText};
-ghost use Rattle.cell.specs.Listing.{wordList, used, held, payload, blockLen, usedAll, heldAll, kindBit, kindBits, kindMap, judged, Judged, blocksLen, headOf, columnsOf, bodyOf, Good, Measures};
+ghost use Rattle.cell.specs.Listing.{wordList, used, held, payload, blockLen, usedAll, heldAll, kindBit, kindBits, kindMap, judged, Judged, blocksLen, headOf, columnsOf, bodyOf, bodySize, Good, Measures};
 
 const KIND_LOCAL: u8 = 1;
 
@@ -424,9 +424,9 @@ fn put_columns(out: &mut [u8], kinds: &[u8], words: &[u8], data: &[u8])
 }
 
 // The body of a good list.
-fn put_body(out: &mut [u8], size: usize, id: u64, kinds: &[u8], words: &[u8], data: &[u8])
-    requires { ⌜ Good id (now kinds) (now words) (now «data») size ⌝ }
-    requires { ⌜ size ≤ length (now out) ⌝ }
+fn put_body(out: &mut [u8], id: u64, kinds: &[u8], words: &[u8], data: &[u8])
+    requires { ⌜ Good id (now kinds) (now words) (now «data») (bodySize id (now kinds) (now words) (now «data»)) ⌝ }
+    requires { ⌜ bodySize id (now kinds) (now words) (now «data») ≤ length (now out) ⌝ }
     ensures { λ _. ⌜ now (out .exit) ≡ over (now (out .entry)) (bodyOf id (now (kinds .entry)) (now (words .entry)) (now («data» .entry))) ⌝ }
 {
     let n = put_head(out, id, kinds.len() as u64);
@@ -440,7 +440,7 @@ fn put_entry(out: &mut [u8], size: usize, id: u64, kinds: &[u8], words: &[u8], d
     ensures { λ _. ⌜ now (out .exit) ≡ over (now (out .entry)) (lebBytes size ++ bodyOf id (now (kinds .entry)) (now (words .entry)) (now («data» .entry))) ⌝ }
 {
     let n = varint::inner::put_u64(out, size as u64);
-    put_body(&mut out[n..], size, id, kinds, words, data);
+    put_body(&mut out[n..], id, kinds, words, data);
 }
 
 // Writes the entry of a value list: its kinds, its words of eight bytes each, and its data. A refused write changes no byte.
