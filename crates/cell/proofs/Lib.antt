@@ -16,6 +16,7 @@ pub mod Measuring
 pub mod Listed
 pub mod Writing
 pub mod KeyWriting
+pub mod Whole
 pub mod Lengths
 pub mod Reread
 pub mod WrittenRead

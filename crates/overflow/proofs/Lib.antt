@@ -1,3 +1,4 @@
 pub mod References
 pub mod PagedEntries
 pub mod RefWriting
+pub mod LeafView
