@@ -1,2 +1,3 @@
 pub mod Dividers
 pub mod DividerWriting
+pub mod DividerView
