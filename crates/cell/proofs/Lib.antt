@@ -20,3 +20,4 @@ pub mod Whole
 pub mod Lengths
 pub mod Reread
 pub mod WrittenRead
+pub mod KeyBack

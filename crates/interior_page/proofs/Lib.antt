@@ -1,3 +1,4 @@
 pub mod Dividers
 pub mod DividerWriting
 pub mod DividerView
+pub mod DividerBack
