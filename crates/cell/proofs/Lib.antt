@@ -10,3 +10,4 @@ pub mod Writing
 pub mod Lengths
 pub mod Reread
 pub mod WrittenRead
+pub mod ReadWritten
