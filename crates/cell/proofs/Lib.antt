@@ -21,3 +21,5 @@ pub mod Lengths
 pub mod Reread
 pub mod WrittenRead
 pub mod KeyBack
+pub mod ReadWritten
+pub mod Exact

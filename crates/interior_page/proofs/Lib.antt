@@ -2,3 +2,4 @@ pub mod Dividers
 pub mod DividerWriting
 pub mod DividerView
 pub mod DividerBack
+pub mod Exact

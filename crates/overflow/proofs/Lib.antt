@@ -3,3 +3,4 @@ pub mod PagedEntries
 pub mod RefWriting
 pub mod LeafView
 pub mod RefBack
+pub mod Exact
