@@ -14,9 +14,9 @@ use borrow.Author.Tests.{lt-ltb, le-ltb, ne-eqb}
 use Rattle.paper.specs.Answer.{Answer, gives, refuses, andThen, pick}
 use Rattle.paper.proofs.Laws.{paper, gives-refuses}
 use Rattle.field.proofs.Storing.{length-bytes}
+use Rattle.varint.proofs.Limits.{groups-most}
 use Rattle.varint.specs.Leb.{lebBytes, lenU64}
 use Rattle.varint.specs.Zigzag.{zigzag}
-use Rattle.varint.proofs.Standard.{groups-most}
 use Rattle.utf8.specs.WellFormed.{checkText, wellFormed}
 use Rattle.utf8.specs.Checked.{paper as paperText}
 use Rattle.utf8.specs.declared.Checked.{Checked}

@@ -18,8 +18,7 @@ use Rattle.field.proofs.Storing.{length-bytes}
 use Rattle.varint.specs.Leb.{lebBytes}
 use Rattle.varint.specs.Paper.{paperWrote}
 use Rattle.varint.specs.declared.Wrote.the-variants as W
-use Rattle.varint.proofs.Limits.{groups-last}
-use Rattle.varint.proofs.Standard.{groups-most}
+use Rattle.varint.proofs.Limits.{groups-last, groups-most}
 use Rattle.cell.specs.Keyed.{keyOf, overAt, withLength, fitted}
 use Rattle.cell.proofs.Placing.{lent, then-over, rest-all, over-then, placing}
 

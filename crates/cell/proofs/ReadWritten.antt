@@ -23,7 +23,8 @@ use Rattle.varint.specs.Number.{readI64}
 use Rattle.varint.specs.Standard.{Bytes}
 use Rattle.varint.specs.Zigzag.{zigzag, unzigzag}
 use Rattle.varint.proofs.Laws.{read-is}
-use Rattle.varint.proofs.Standard.{read-sequence, groups-sequence, groups-most, sequence-bound, written-shortest}
+use Rattle.varint.proofs.Limits.{groups-most}
+use Rattle.varint.proofs.Standard.{read-sequence, groups-sequence, sequence-bound, written-shortest}
 use Rattle.varint.proofs.Zigzag.{forth, signed-fits}
 use Rattle.utf8.specs.WellFormed.{checkText, checkAt}
 use Rattle.cell.specs.Block.{Block, null, integer, real, bool, text, vector, block, blockOf, isNull, bitmapBytes, columns}

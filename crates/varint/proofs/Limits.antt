@@ -53,6 +53,16 @@ groups-one v = by (ltb v 128) refl
     by true e = rw e
     by false e = rw e
 
+-- at most as many as are allowed
+pub groups-most : (n v : ℕ) → length (groups n v) ≤ n
+unfolding groups pick
+groups-most zero v = zero-le
+groups-most (suc n) v = by (ltb v 128) refl (groups-most n (v / 128))
+  where
+    by : (t : Bool) → ltb v 128 ≡ t → length (groups n (v / 128)) ≤ n → length (groups (suc n) v) ≤ suc n
+    by true t ih = rw t (suc-le-suc zero-le)
+    by false t ih = rw t (suc-le-suc ih)
+
 -- ---- the length: n limits are passed, and the rest of the number has the rest of the groups
 pub record Passed (v n : ℕ) : Type 0 where
   pub most : n ≤ 9
@@ -83,10 +93,16 @@ module _ {v n l : ℕ} (p : Passed v n) (t : n < 9) (e : l ≡ 2 ^ (7 * (n + 1))
       = rw (f, groups-more (10 - (n + 1)) (v / 2 ^ (7 * n)) g, d) at (sym (p .same)) in
       record { most = omega arith; same = omega arith }
 
+pub passed-one : (v : ℕ) {l : ℕ} → l ≡ 2 ^ (7 * (0 + 1)) → v < l → 1 ≡ lenU64 v
+passed-one v e h = passed-last (passed-none v) (omega arith) e h
+
+pub passed-first : (v : ℕ) {l : ℕ} → l ≡ 2 ^ (7 * (0 + 1)) → l ≤ v → Passed v 1
+passed-first v e h = passed-more (passed-none v) (omega arith) e h
+
 pub passed-all : {v n : ℕ} → Passed v n → 9 ≤ n → 10 ≡ lenU64 v
 passed-all {v} {n} p h =
     let l : n ≤ 9 = p .most in
     let e : n ≡ 9 = omega arith in
     rw (e, groups-one (v / 2 ^ 63)) at (p .same)
 
-pub ruleset limits = (needs, passed-none, passed-last, passed-more, passed-all)
+pub ruleset limits = (needs, passed-one, passed-first, passed-last, passed-more, passed-all)

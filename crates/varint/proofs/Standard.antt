@@ -16,7 +16,7 @@ use Rattle.paper.proofs.Laws.{gives-one, gives-refuses, first, second}
 use Rattle.varint.specs.Leb.{taken, sumFrom, readFrom, readU64, groups, lebBytes, lenU64}
 use Rattle.varint.specs.Standard.{Leb128, last, more, Bytes}
 use Rattle.varint.proofs.Laws.{Read, read-is, taken-is}
-use Rattle.varint.proofs.Limits.{groups-last, groups-more}
+use Rattle.varint.proofs.Limits.{groups-last, groups-more, groups-most}
 
 -- ---- reading: every sequence of at most ten bytes is accepted, whatever stands behind it, and read modulo 2 ^ 64
 
@@ -145,15 +145,6 @@ groups-sequence (suc n) v h =
     by : (t : Bool) → ltb v 128 ≡ t → Leb128 (groups (suc n) (v / 128)) (v / 128) → Leb128 (groups (suc (suc n)) v) v
     by true t ih = one-group (suc n) v (ltb-true v 128 t)
     by false t ih = more-groups (suc n) v (ltb-false v 128 t) ih
-
-pub groups-most : (n v : ℕ) → length (groups n v) ≤ n
-unfolding groups pick
-groups-most zero v = zero-le
-groups-most (suc n) v = by (ltb v 128) refl (groups-most n (v / 128))
-  where
-    by : (t : Bool) → ltb v 128 ≡ t → length (groups n (v / 128)) ≤ n → length (groups (suc n) v) ≤ suc n
-    by true t ih = rw t (suc-le-suc zero-le)
-    by false t ih = rw t (suc-le-suc ih)
 
 -- what is written is a sequence of the number
 pub written-sequence : (v : ℕ) → v < 2 ^ 64 → Leb128 (lebBytes v) v

@@ -3,7 +3,7 @@
 use mathlib.Core.Path.{_≡_, refl, sym, _∙_, ap}
 use mathlib.Core.List.{List, [], _∷_, _++_}
 use Prim.Native.Nat.{ℕ, zero, suc, _+_, _-_, _*_, _/_, _%_, _^_, _≤_, _<_}
-use native.Mathlib.Nat.{zero-add}
+use native.Mathlib.Nat.{zero-add, le-trans}
 use native.Mathlib.Numerals.{add-one}
 use native.Mathlib.Omega.{arith}
 use lib.Arith.{lt-of-le-ne}
@@ -17,7 +17,7 @@ use Rattle.varint.specs.Leb.{groups, lebBytes, lenU64, writeU64}
 use Rattle.varint.specs.Paper.{paperWrote}
 use Rattle.varint.specs.declared.Wrote.{Wrote}
 use Rattle.varint.specs.declared.Wrote.the-variants as W
-use Rattle.varint.proofs.Limits.{groups-last, groups-more, groups-some}
+use Rattle.varint.proofs.Limits.{groups-last, groups-more, groups-some, groups-most}
 
 pub record Filling (out₀ : List ℕ) (value : ℕ) (out : List ℕ) (v i : ℕ) : Type 0 where
   pub room : lenU64 value ≤ length out₀
@@ -85,6 +85,20 @@ module _ {out₀ out : List ℕ} {value v i : ℕ} (w : Filling out₀ value out
       let l : 0 + length (lebBytes value) ≤ length out₀ = omega arith in
       f ∙ sets-eq (lebBytes value) out₀ 0 l ∙ ap (λ (n : ℕ). lebBytes value ++ drop n out₀) z
 
+-- ---- an output with room for any number
+module _ (value room : ℕ) (h : 10 ≤ room) where
+  pub any-room : lenU64 value ≤ room
+  unfolding lebBytes
+  any-room = le-trans (groups-most 10 value) h
+
+  pub any-size : {n : ℕ} → n ≡ lenU64 value → paperWrote (W.Bytes n) ≡ sizeOf (writeU64 value room)
+  unfolding paperWrote sizeOf writeU64 pick
+  any-size e = rw (e, le-ltb room (lenU64 value) any-room)
+
+  pub any-output : (out : List ℕ) {new : List ℕ} → new ≡ over out (lebBytes value) → new ≡ put out (writeU64 value room)
+  unfolding put writeU64 pick
+  any-output out d = rw (le-ltb room (lenU64 value) any-room) d
+
 -- ---- the call, by the length that the code asked for
 module _ (value room : ℕ) {l : ℕ} (e : l ≡ lenU64 value) where
   pub refused-size : room < l → paperWrote (W.Refused 16) ≡ sizeOf (writeU64 value room)
@@ -137,6 +151,9 @@ pub ruleset writing = (
   filling-done,
   refused-size,
   refused-output,
+  any-room,
+  any-size,
+  any-output,
   has-room,
   accepted-output,
   accepted-size,

@@ -68,6 +68,10 @@ pub fn write_u64(out: &mut [u8], value: u64) -> Wrote
         out[0] = value as u8;
         return Wrote::Bytes(1);
     }
+    // Room for any number is seen at once; a shorter output is held to the number's own length.
+    if MAX_VARINT_BYTES <= out.len() {
+        return Wrote::Bytes(inner::put_u64(out, value));
+    }
     if out.len() < u64_len(value) {
         return Wrote::Refused(16);
     }
@@ -124,7 +128,10 @@ pub fn read_i64(buf: &[u8], pos: usize) -> ReadI64
 pub fn u64_len(value: u64) -> usize
     ensures { λ r. ⌜ r ≡ lenU64 value ⌝ }
 {
-    let mut n: usize = 0;
+    if value < limit(0) {
+        return 1;
+    }
+    let mut n: usize = 1;
     while n < 9 {
         if value < limit(n) {
             return n + 1;

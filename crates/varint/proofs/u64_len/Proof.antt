@@ -10,6 +10,8 @@ u64-len-spec =
     (tie.spec
     (λ value n₀ n. Passed value n)
     (λ value n₀ n. 9 - n)
+    (λ c κs. search limits)
+    (λ c. search limits)
     (λ c. search limits)
     (λ c κs. search limits)
     (λ c. search limits)

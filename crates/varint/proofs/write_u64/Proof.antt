@@ -8,4 +8,5 @@ write-u64-spec =
     tie.close
     (tie.spec
     (λ c. search writing) (λ c. search writing) (λ c. search writing) (λ c. search writing) (λ c. search writing)
+    (λ c κs. search writing) (λ c. search writing) (λ c. search writing)
     (λ c κs. search writing) (λ c. search writing) (λ c κs. search writing) (λ c. search writing) (λ c. search writing))
