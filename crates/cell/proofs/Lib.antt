@@ -22,4 +22,5 @@ pub mod Reread
 pub mod WrittenRead
 pub mod KeyBack
 pub mod ReadWritten
+pub mod PlainWritten
 pub mod Exact

@@ -62,7 +62,7 @@ abbrev Fine : List ℕ → ℕ → Answer (Block × ℕ) → Type 0
 Fine body at (gives (b, next)) = Short body at b next
 Fine body at (refuses k) = Unit {0}
 
-unknown : (tag : ℕ) (body : List ℕ) (at : ℕ) → 4 < tag → blockOf tag body at ≡ refuses 9
+pub unknown : (tag : ℕ) (body : List ℕ) (at : ℕ) → 4 < tag → blockOf tag body at ≡ refuses 9
 unfolding blockOf pick
 unknown tag body at l =
     let a : tag ≡ 0 → ⊥ = λ e. omega arith in
@@ -260,7 +260,7 @@ module _ (body : List ℕ) (b : Bytes body) where
       by false false = tt
 
 -- ---- the entry
-bytes-take : (n : ℕ) (s : List ℕ) → Bytes s → Bytes (take n s)
+pub bytes-take : (n : ℕ) (s : List ℕ) → Bytes s → Bytes (take n s)
 bytes-take zero s b = tt
 bytes-take (suc n) [] b = tt
 bytes-take (suc n) (x ∷ s) b = (b .0, bytes-take n s (b .1))

@@ -148,7 +148,7 @@ module _ {body : List ℕ} {at : ℕ} {t : List ℕ} where
       )
 
 -- ---- the bitmap
-bit-small : (c : Content) → nullBit c ≤ 1
+pub bit-small : (c : Content) → nullBit c ≤ 1
 unfolding nullBit
 bit-small none = omega arith
 bit-small (whole v) = omega arith
@@ -189,7 +189,7 @@ byte-at (suc n) (suc b) cs h =
     rw (e, ← drop-drop (8 * b) 8 cs) (byte-at n b (drop 8 cs) (omega arith))
 
 -- each column from column c on is null in the bitmap where its content is
-abbrev Nulled : List ℕ → ℕ → ℕ → List Content → Type 0
+abbrev pub Nulled : List ℕ → ℕ → ℕ → List Content → Type 0
 Nulled body place c [] = Unit {0}
 Nulled body place c (x ∷ ds) = (isNull body place c ≡ eqb (nullBit x) 1) × Nulled body place (c + 1) ds
 

@@ -54,7 +54,7 @@ accepted kinds words rest e =
     }
 
 -- ---- eight bytes are a 64-bit word
-byte-below : (s : List ℕ) (i : ℕ) → Bytes s → getD s i 0 < 256
+pub byte-below : (s : List ℕ) (i : ℕ) → Bytes s → getD s i 0 < 256
 byte-below [] i b = omega arith
 byte-below (x ∷ s) zero b = b .0
 byte-below (x ∷ s) (suc i) b = byte-below s i (b .1)

@@ -11,3 +11,4 @@ pub mod ValueList
 pub mod Written
 pub mod Paper
 pub mod Listing
+pub mod Plain
