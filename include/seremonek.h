@@ -57,6 +57,26 @@ int64_t smk_zigzag_decode(uint64_t value);
 /* Whether all of `bytes` is text; no bytes are. Refusal 8. */
 uint32_t smk_utf8_check(const uint8_t *bytes, size_t bytes_len);
 
+/* Overflow references and paged entries. */
+
+/* The overflow reference at `pos`. Answer: rowid, total, first page, bytes taken. Refusals 1, 2, 3, 5, 6, 10. */
+uint32_t smk_overflow_decode(const uint8_t *buf, size_t buf_len, size_t pos, uint64_t answer[4]);
+
+/* Writes an overflow reference. Answer: bytes written, 8 to 26. Refusal 16. */
+uint32_t smk_overflow_encode(int64_t rowid, uint64_t total, uint32_t first, uint8_t *out, size_t out_len, uint64_t answer[1]);
+
+/* The local entry or the overflow reference at `pos`, by its kind. Answer: kind (1 local, 2 overflow), rowid, columns or total, 0 or first page, bytes
+ * taken. Refusals 1 to 10. */
+uint32_t smk_entry_decode(const uint8_t *buf, size_t buf_len, size_t pos, uint64_t answer[5]);
+
+/* Interior cells. */
+
+/* The interior cell at `pos`. Answer: divider, child page, bytes taken. Refusals 1, 2, 3, 5, 6, 10. */
+uint32_t smk_interior_cell_decode(const uint8_t *buf, size_t buf_len, size_t pos, uint64_t answer[3]);
+
+/* Writes an interior cell. Answer: bytes written, 7 to 16. Refusal 16. */
+uint32_t smk_interior_cell_encode(int64_t divider, uint32_t child, uint8_t *out, size_t out_len, uint64_t answer[1]);
+
 #ifdef __cplusplus
 }
 #endif

@@ -25,6 +25,8 @@ mod random;
 #[cfg(not(oracle_missing))]
 mod record;
 #[cfg(not(oracle_missing))]
+mod references;
+#[cfg(not(oracle_missing))]
 mod run;
 #[cfg(not(oracle_missing))]
 mod utf8;
@@ -33,7 +35,7 @@ mod varint;
 
 /// Lowest first.
 #[cfg(not(oracle_missing))]
-const LAYERS: &[frame::Layer] = &[varint::LAYER, utf8::LAYER];
+const LAYERS: &[frame::Layer] = &[varint::LAYER, utf8::LAYER, references::LAYER];
 
 #[cfg(not(oracle_missing))]
 fn main() {

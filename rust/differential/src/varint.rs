@@ -98,7 +98,7 @@ fn writing(value: u64, output: &[u8]) -> Input<'_> {
 }
 
 /// `value` in exactly `length` bytes, be they more than it needs. Written here anew, so that it leans on neither side.
-fn leb(value: u64, length: usize) -> Vec<u8> {
+pub fn leb(value: u64, length: usize) -> Vec<u8> {
     let group = |i: usize| (value.checked_shr(7 * i as u32).unwrap_or(0) & 0x7F) as u8;
     (0..length).map(|i| group(i) | if i + 1 < length { 0x80 } else { 0 }).collect()
 }
@@ -109,7 +109,7 @@ fn signed_like(value: u64) -> u64 {
 }
 
 /// `value` in every length that holds it, from the shortest to ten bytes.
-fn forms(value: u64) -> impl Iterator<Item = Vec<u8>> {
+pub fn forms(value: u64) -> impl Iterator<Item = Vec<u8>> {
     let shortest = (1..=10).find(|k| *k == 10 || value >> (7 * k) == 0).unwrap();
     (shortest..=10).map(move |length| leb(value, length))
 }

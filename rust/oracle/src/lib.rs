@@ -11,6 +11,10 @@ mod asking;
 #[cfg(not(oracle_missing))]
 pub mod error;
 #[cfg(not(oracle_missing))]
+pub mod interior_page;
+#[cfg(not(oracle_missing))]
+pub mod overflow;
+#[cfg(not(oracle_missing))]
 pub mod texts;
 #[cfg(not(oracle_missing))]
 pub mod utf8;

@@ -16,4 +16,13 @@ unsafe extern "C" {
 
     // utf8
     pub fn smk_utf8_check(bytes: *const u8, bytes_len: usize) -> u32;
+
+    // overflow
+    pub fn smk_overflow_decode(buf: *const u8, buf_len: usize, pos: usize, answer: *mut [u64; 4]) -> u32;
+    pub fn smk_overflow_encode(rowid: i64, total: u64, first: u32, out: *mut u8, out_len: usize, answer: *mut [u64; 1]) -> u32;
+    pub fn smk_entry_decode(buf: *const u8, buf_len: usize, pos: usize, answer: *mut [u64; 5]) -> u32;
+
+    // interior_page
+    pub fn smk_interior_cell_decode(buf: *const u8, buf_len: usize, pos: usize, answer: *mut [u64; 3]) -> u32;
+    pub fn smk_interior_cell_encode(divider: i64, child: u32, out: *mut u8, out_len: usize, answer: *mut [u64; 1]) -> u32;
 }

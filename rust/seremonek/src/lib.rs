@@ -5,6 +5,8 @@
 //! to the exported functions of `crates/seremonek`.
 
 pub mod ffi;
+pub mod interior_page;
+pub mod overflow;
 mod refusal;
 pub mod utf8;
 pub mod varint;
