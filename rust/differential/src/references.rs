@@ -17,9 +17,7 @@ const CALLS: &[Call] = &[
         answers: &[0, 1, 2, 3, 5, 6, 10],
         rust: |input| {
             let reply = oracle::overflow::decode(input.bytes[0], input.numbers[0] as usize);
-            expect(reply, None, |(rowid, total, first, bytes)| {
-                Expected::accepted(&[rowid as u64, total, u64::from(first), bytes as u64])
-            })
+            expect(reply, None, |(rowid, total, first, bytes)| Expected::accepted(&[rowid as u64, total, u64::from(first), bytes as u64]))
         },
         ours: |lent| unsafe {
             ffi::smk_overflow_decode(lent.bytes[0].as_ptr(), lent.bytes[0].len(), lent.numbers[0] as usize, lent.answer())
@@ -39,14 +37,7 @@ const CALLS: &[Call] = &[
         },
         ours: |lent| unsafe {
             let [rowid, total, first, _] = lent.numbers;
-            ffi::smk_overflow_encode(
-                rowid as i64,
-                total,
-                page(first),
-                lent.outputs[0].as_mut_ptr(),
-                lent.outputs[0].len(),
-                lent.answer(),
-            )
+            ffi::smk_overflow_encode(rowid as i64, total, page(first), lent.outputs[0].as_mut_ptr(), lent.outputs[0].len(), lent.answer())
         },
     },
     Call {
@@ -61,9 +52,7 @@ const CALLS: &[Call] = &[
                 Expected::accepted(&[u64::from(kind), rowid as u64, size, u64::from(first), bytes as u64])
             })
         },
-        ours: |lent| unsafe {
-            ffi::smk_entry_decode(lent.bytes[0].as_ptr(), lent.bytes[0].len(), lent.numbers[0] as usize, lent.answer())
-        },
+        ours: |lent| unsafe { ffi::smk_entry_decode(lent.bytes[0].as_ptr(), lent.bytes[0].len(), lent.numbers[0] as usize, lent.answer()) },
     },
     Call {
         name: "smk_interior_cell_decode",
@@ -92,13 +81,7 @@ const CALLS: &[Call] = &[
         },
         ours: |lent| unsafe {
             let [divider, child, ..] = lent.numbers;
-            ffi::smk_interior_cell_encode(
-                divider as i64,
-                page(child),
-                lent.outputs[0].as_mut_ptr(),
-                lent.outputs[0].len(),
-                lent.answer(),
-            )
+            ffi::smk_interior_cell_encode(divider as i64, page(child), lent.outputs[0].as_mut_ptr(), lent.outputs[0].len(), lent.answer())
         },
     },
 ];
