@@ -76,8 +76,8 @@ fn many<T>(make: fn(&mut Numbers) -> T) -> Vec<T> {
 pub fn cases(table: &mut Table) {
     for (name, references) in [("small", many(small_reference)), ("any", many(any_reference))] {
         let encoded: Vec<Vec<u8>> = references.iter().map(OverflowRef::encode).collect();
-        read_case(table, &format!("overflow_decode {name}"), &encoded, ffi::smk_overflow_decode, OverflowRef::decode, |r| {
-            (r.rowid as u64).wrapping_add(r.total_body_len).wrapping_add(u64::from(r.first_overflow_page))
+        read_case(table, &format!("overflow_decode {name}"), &encoded, ffi::smk_overflow_decode, OverflowRef::decode, |r, bytes| {
+            [r.rowid as u64, r.total_body_len, u64::from(r.first_overflow_page), bytes]
         });
         let ours: unsafe extern "C" fn(i64, u64, u32, *mut u8, usize, *mut [u64; 1]) -> u32 = black_box(ffi::smk_overflow_encode);
         let rust: fn(&OverflowRef) -> Vec<u8> = black_box(OverflowRef::encode);
@@ -97,16 +97,28 @@ pub fn cases(table: &mut Table) {
     ];
     for (name, entries) in entries {
         let encoded: Vec<Vec<u8>> = entries.iter().map(|entry| entry.encode().unwrap()).collect();
-        read_case(table, &format!("entry_decode {name}"), &encoded, ffi::smk_entry_decode, PagedEntry::decode, |entry| match entry {
-            PagedEntry::Local(cell) => (cell.rowid as u64).wrapping_add(cell.values.len() as u64),
-            PagedEntry::Overflow(r) => (r.rowid as u64).wrapping_add(r.total_body_len).wrapping_add(u64::from(r.first_overflow_page)),
-        });
+        read_case(
+            table,
+            &format!("entry_decode {name}"),
+            &encoded,
+            ffi::smk_entry_decode,
+            PagedEntry::decode,
+            |entry, bytes| match entry {
+                PagedEntry::Local(cell) => [1, cell.rowid as u64, cell.values.len() as u64, 0, bytes],
+                PagedEntry::Overflow(r) => [2, r.rowid as u64, r.total_body_len, u64::from(r.first_overflow_page), bytes],
+            },
+        );
     }
     for (name, cells) in [("small", many(small_cell)), ("any", many(any_cell))] {
         let encoded: Vec<Vec<u8>> = cells.iter().map(InteriorCell::encode).collect();
-        read_case(table, &format!("interior_decode {name}"), &encoded, ffi::smk_interior_cell_decode, InteriorCell::decode, |cell| {
-            (cell.divider_rowid as u64).wrapping_add(u64::from(cell.child_page))
-        });
+        read_case(
+            table,
+            &format!("interior_decode {name}"),
+            &encoded,
+            ffi::smk_interior_cell_decode,
+            InteriorCell::decode,
+            |cell, bytes| [cell.divider_rowid as u64, u64::from(cell.child_page), bytes],
+        );
         let ours: unsafe extern "C" fn(i64, u32, *mut u8, usize, *mut [u64; 1]) -> u32 = black_box(ffi::smk_interior_cell_encode);
         let rust: fn(&InteriorCell) -> Vec<u8> = black_box(InteriorCell::encode);
         write_case(
@@ -123,6 +135,11 @@ pub fn cases(table: &mut Table) {
 type OurRead<const N: usize> = unsafe extern "C" fn(*const u8, usize, usize, *mut [u64; N]) -> u32;
 type RustRead<T> = fn(&[u8], usize) -> Result<(T, usize)>;
 
+/// Looks at each word of an answer by itself, as a caller does: a plain sum would be taken of several at once.
+fn mixed<const N: usize>(sum: u64, words: [u64; N]) -> u64 {
+    words.iter().fold(sum, |sum, word| sum.rotate_left(5) ^ word)
+}
+
 /// The entries one behind the other in one buffer, each read at its place.
 fn read_case<T, const N: usize>(
     table: &mut Table,
@@ -130,7 +147,7 @@ fn read_case<T, const N: usize>(
     entries: &[Vec<u8>],
     ours: OurRead<N>,
     rust: RustRead<T>,
-    words: impl Fn(T) -> u64,
+    words: impl Fn(T, u64) -> [u64; N],
 ) {
     let (ours, rust) = (black_box(ours), black_box(rust));
     let buf = entries.concat();
@@ -145,7 +162,7 @@ fn read_case<T, const N: usize>(
                 // SAFETY: a slice with its length, and an array of the declared length.
                 let number = unsafe { ours(buf.as_ptr(), buf.len(), *pos, &mut answer) };
                 if number == 0 {
-                    sum = answer.iter().fold(sum, |sum, word| sum.wrapping_add(*word));
+                    sum = mixed(sum, answer);
                 }
             }
             black_box(sum);
@@ -154,7 +171,7 @@ fn read_case<T, const N: usize>(
             let mut sum = 0u64;
             for pos in &places {
                 if let Ok((entry, bytes)) = rust(&buf, *pos) {
-                    sum = sum.wrapping_add(words(entry)).wrapping_add(bytes as u64);
+                    sum = mixed(sum, words(entry, bytes as u64));
                 }
             }
             black_box(sum);
