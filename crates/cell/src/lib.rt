@@ -142,4 +142,3 @@ pub fn decode(buf: &[u8], pos: usize) -> Decoded
     }
     decode_from(&buf[pos..])
 }
-// Cells: the port of cell.rs.
