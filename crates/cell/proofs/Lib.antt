@@ -14,3 +14,7 @@ pub mod Judging
 pub mod Measuring
 pub mod Listed
 pub mod Writing
+pub mod Lengths
+pub mod Reread
+pub mod WrittenRead
+pub mod ReadWritten

@@ -3,18 +3,35 @@
 use mathlib.Core.Path.{_≡_, refl, sym, ap}
 use mathlib.Core.Bool.{Bool, true, false}
 use mathlib.Core.List.{List, [], _∷_}
-use Prim.Native.Nat.{ℕ, zero, suc, _-_, _*_, _/_, _≤_, _<_}
+use Prim.Native.Nat.{ℕ, zero, suc, _-_, _*_, _/_, _^_, _≤_, _<_}
 use native.Mathlib.Omega.{arith}
 use lib.Dec.{ltb, eqb}
 use lib.ListN.{length, take, drop, length-drop}
+use lib.Seq.{length-take-le}
+use mir.Syntax.{w64}
+use mir.Val.{SFits}
+use mir.ValLaws.{toZ-fits}
 use borrow.Author.Tests.{ltb-false, eqb-true, ne-eqb}
 use Rattle.paper.specs.Answer.{Answer, gives, refuses, andThen, pick}
 use Rattle.paper.proofs.Laws.{gives-one, gives-refuses}
 use Rattle.utf8.specs.WellFormed.{checkText}
-use Rattle.cell.specs.Content.{Content, none, truth, letters, floats}
+use Rattle.cell.specs.Content.{Content, none, whole, float, truth, letters, floats}
 use Rattle.cell.specs.ValueList.{item, items}
 use Rattle.cell.specs.Written.{nullBit, nullBits, bitmap}
 use Rattle.cell.specs.Listing.{used, held, usedAll, heldAll, kindBit, kindBits, kindMap}
+
+-- ---- contents of 64-bit words and whole texts and vectors
+abbrev pub Sound : Content → Type 0
+Sound none = Unit {0}
+Sound (whole v) = SFits w64 v
+Sound (float bits) = bits < 2 ^ 64
+Sound (truth b) = Unit {0}
+Sound (letters t) = (checkText t ≡ gives tt) × (length t < 2 ^ 64)
+Sound (floats v) = (4 * (length v / 4) ≡ length v) × (length v / 4 < 2 ^ 64)
+
+abbrev pub AllSound : List Content → Type 0
+AllSound [] = Unit {0}
+AllSound (c ∷ cs) = Sound c × AllSound cs
 
 -- ---- one column
 pub record Column (kind word : ℕ) (rest : List ℕ) (c : Content) (left : List ℕ) : Type 0 where
@@ -22,6 +39,7 @@ pub record Column (kind word : ℕ) (rest : List ℕ) (c : Content) (left : List
   pub leaves : left ≡ drop (used kind word) rest
   pub fits : used kind word ≤ length rest
   pub marks : nullBit c ≡ kindBit kind
+  pub sound : word < 2 ^ 64 → Sound c
 
 -- what an accepted column is
 abbrev Fine : ℕ → ℕ → List ℕ → Answer (Content × List ℕ) → Type 0
@@ -29,28 +47,37 @@ Fine kind word rest (gives (c, left)) = Column kind word rest c left
 Fine kind word rest (refuses k) = Unit {0}
 
 module _ (word : ℕ) (rest : List ℕ) where
-  text-fine : (t : Bool) → ltb (length rest) word ≡ t → (a : Answer (Unit {0}))
+  text-fine : (t : Bool) → ltb (length rest) word ≡ t → (a : Answer (Unit {0})) → checkText (take word rest) ≡ a
       → Fine 2 word rest (pick t (refuses 15) (andThen a (λ _. gives (letters (take word rest), drop word rest))))
   unfolding pick andThen held used nullBit kindBit
-  text-fine true e a = tt
-  text-fine false e (refuses k) = tt
-  text-fine false e (gives u) = record { holds = refl; leaves = refl; fits = ltb-false (length rest) word e; marks = refl }
+  text-fine true e a g = tt
+  text-fine false e (refuses k) g = tt
+  text-fine false e (gives u) g =
+      let l : word ≤ length rest = ltb-false (length rest) word e in
+      record {
+        holds = refl;
+        leaves = refl;
+        fits = l;
+        marks = refl;
+        sound = λ h. (g, rw (length-take-le word rest l) h);
+      }
 
   bool-fine : (t : Bool) → Fine 3 word rest (pick t (refuses 15) (gives (truth (eqb word 1), rest)))
   unfolding pick held used nullBit kindBit
   bool-fine true = tt
-  bool-fine false = record { holds = refl; leaves = refl; fits = omega arith; marks = refl }
+  bool-fine false = record { holds = refl; leaves = refl; fits = omega arith; marks = refl; sound = λ h. tt }
 
   vector-fine : (t : Bool) → ltb (length rest / 4) word ≡ t → Fine 4 word rest (pick t (refuses 15) (gives (floats (take (4 * word) rest), drop (4 * word) rest)))
   unfolding pick held used nullBit kindBit
   vector-fine true e = tt
   vector-fine false e =
       let l : word ≤ length rest / 4 = ltb-false (length rest / 4) word e in
-      record { holds = refl; leaves = refl; fits = omega arith; marks = refl }
+      let n : length (take (4 * word) rest) ≡ 4 * word = length-take-le (4 * word) rest (omega arith) in
+      record { holds = refl; leaves = refl; fits = omega arith; marks = refl; sound = λ h. rw n (omega arith, omega arith) }
 
   null-column : Column 255 word rest none rest
   unfolding held used nullBit kindBit pick
-  null-column = record { holds = refl; leaves = refl; fits = omega arith; marks = refl }
+  null-column = record { holds = refl; leaves = refl; fits = omega arith; marks = refl; sound = λ h. tt }
 
   null-fine : (kind : ℕ) (s t : Bool) → eqb kind 255 ≡ s → Fine kind word rest (pick s (pick t (gives (none, rest)) (refuses 15)) (refuses 15))
   unfolding pick
@@ -72,9 +99,10 @@ other-item kind word rest l =
 
 item-fine : (kind word : ℕ) (rest : List ℕ) → Fine kind word rest (item kind word rest)
 unfolding item pick held used nullBit kindBit
-item-fine zero word rest = record { holds = refl; leaves = refl; fits = omega arith; marks = refl }
-item-fine (suc zero) word rest = record { holds = refl; leaves = refl; fits = omega arith; marks = refl }
-item-fine (suc (suc zero)) word rest = text-fine word rest (ltb (length rest) word) refl (checkText (take word rest))
+item-fine zero word rest =
+    record { holds = refl; leaves = refl; fits = omega arith; marks = refl; sound = λ h. toZ-fits w64 word (record { fits = h }) }
+item-fine (suc zero) word rest = record { holds = refl; leaves = refl; fits = omega arith; marks = refl; sound = λ h. h }
+item-fine (suc (suc zero)) word rest = text-fine word rest (ltb (length rest) word) refl (checkText (take word rest)) refl
 item-fine (suc (suc (suc zero))) word rest = bool-fine word rest (ltb 1 word)
 item-fine (suc (suc (suc (suc zero)))) word rest = vector-fine word rest (ltb (length rest / 4) word) refl
 item-fine (suc (suc (suc (suc (suc zero))))) word rest = tt
@@ -87,10 +115,16 @@ pub data Marked : List ℕ → List Content → Type 0 where
   ended : Marked [] []
   column : {kind : ℕ} {kinds : List ℕ} {c : Content} {cs : List Content} → nullBit c ≡ kindBit kind → Marked kinds cs → Marked (kind ∷ kinds) (c ∷ cs)
 
+-- words of 64 bits
+abbrev pub AllBelow : List ℕ → Type 0
+AllBelow [] = Unit {0}
+AllBelow (word ∷ words) = (word < 2 ^ 64) × AllBelow words
+
 pub record Listed (kinds words rest : List ℕ) (cs : List Content) : Type 0 where
   pub holds : cs ≡ heldAll kinds words rest
   pub fits : usedAll kinds words ≤ length rest
   pub marks : Marked kinds cs
+  pub sound : AllBelow words → AllSound cs
 
 column-listed : {kind word : ℕ} {kinds words rest left : List ℕ} {c : Content} {cs : List Content} → Column kind word rest c left → Listed kinds words left cs
     → Listed (kind ∷ kinds) (word ∷ words) rest (c ∷ cs)
@@ -102,6 +136,7 @@ column-listed {kind} {word} {kinds} {words} {rest} {left} {c} {cs} w l =
       holds = rw (w .holds, h);
       fits = omega (arith, w .fits, length-drop (used kind word) rest);
       marks = column (w .marks) (l .marks);
+      sound = λ h. (w .sound (h .0), l .sound (h .1));
     }
 
 pub items-listed : (kinds words rest : List ℕ) {cs : List Content} → items kinds words rest ≡ gives cs → Listed kinds words rest cs
@@ -109,7 +144,7 @@ unfolding items andThen pick heldAll usedAll
 items-listed [] words rest {cs} e = by (eqb (length rest) 0) e
   where
     by : (t : Bool) → pick t (gives []) (refuses 15) ≡ gives cs → Listed [] words rest cs
-    by true f = rw (← gives-one f) (record { holds = refl; fits = omega arith; marks = ended })
+    by true f = rw (← gives-one f) (record { holds = refl; fits = omega arith; marks = ended; sound = λ h. tt })
     by false f = absurd (gives-refuses (sym f))
 items-listed (kind ∷ kinds) [] rest e = absurd (gives-refuses (sym e))
 items-listed (kind ∷ kinds) (word ∷ words) rest {cs} e =

@@ -2,7 +2,7 @@
 -- Assumes nothing.
 use mathlib.Core.Path.{_≡_, refl, sym, _∙_, ap}
 use mathlib.Core.List.{List, [], _∷_, _++_, append-assoc}
-use Prim.Native.Nat.{ℕ, _+_, _-_, _/_, _%_, _≤_, _<_}
+use Prim.Native.Nat.{ℕ, _+_, _-_, _*_, _/_, _%_, _≤_, _<_}
 use native.Mathlib.Omega.{arith}
 use lib.IntN.{ℤ}
 use lib.ListN.{length, take, drop, length-append}
@@ -21,7 +21,7 @@ use Rattle.cell.specs.Block.{bitmapBytes}
 use Rattle.cell.specs.Content.{Content}
 use Rattle.cell.specs.ValueList.{items, valueList}
 use Rattle.cell.specs.Written.{blocksBytes, bodyBytes, entryBytes, encoded, writeCell}
-use Rattle.cell.specs.Listing.{wordList, heldAll, kindMap, judged, blocksLen, headOf, columnsOf, bodyOf, Good, Measures}
+use Rattle.cell.specs.Listing.{wordList, heldAll, kindMap, judged, blocksLen, headOf, columnsOf, bodyOf, bodySize, Good, Measures}
 use Rattle.cell.proofs.Placing.{then-over}
 use Rattle.cell.proofs.Nulls.{nulls, map-length}
 use Rattle.cell.proofs.Putting.{putting}
@@ -70,7 +70,7 @@ module _ (id : ℕ) (kinds words rest : List ℕ) where
                 by (gives cs) f g = absurd (gives-refuses (sym g))
                 by (refuses k) f g = record { refused = λ _. list-is ∙ f ∙ ap refuses (refuses-one (sym g)); good = λ y. absurd (z y) }
 
-            module _ {r n : ℕ} (j : judged r n ≡ blocksLen (items kinds (wordList words) rest)) (m : n ≤ 17498112) (z : r ≡ 0) where
+            module _ {r n : ℕ} (j : judged r n ≡ blocksLen (items kinds (wordList words) rest)) (m : n ≤ 11 * 65536 + 16777216) (z : r ≡ 0) where
               pub list-good : {p q o : ℕ} → p ≡ length (lebBytes id) → p ≤ 10 → q ≡ length (lebBytes (length kinds)) → q ≤ 10 → o ≡ bitmapBytes (length kinds) → o ≤ 8192
                   → Measures id kinds words rest 0 (1 + (p + q) + (o + n))
               unfolding judged pick blocksLen
@@ -130,6 +130,10 @@ module _ (kinds words rest : List ℕ) where
     body-length : length (bodyOf id kinds words rest) ≡ size
     unfolding bodyOf
     body-length = length-append (headOf id (length kinds)) (columnsOf kinds words rest) ∙ sum-is
+
+    -- the size by its sum
+    pub good-sum : Good id kinds words rest (bodySize id kinds words rest)
+    good-sum = rw (g .sum) at g
 
     module _ (out x new : List ℕ) (n : ℕ) where
       pub body-output : x ≡ over out (headOf id (length kinds)) → n ≡ 1 + (length (lebBytes id) + length (lebBytes (length kinds)))
@@ -233,6 +237,7 @@ pub ruleset writing = (
   list-good,
   head-output,
   columns-output,
+  good-sum,
   body-output,
   entry-output,
   entry-good,

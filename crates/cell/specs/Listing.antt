@@ -96,6 +96,12 @@ columnsOf kinds words rest = kindMap (bitmapBytes (length kinds)) kinds ++ block
 unfoldable pub bodyOf : ℕ → List ℕ → List ℕ → List ℕ → List ℕ
 bodyOf id kinds words rest = headOf id (length kinds) ++ columnsOf kinds words rest
 
+-- its length
+abbrev pub bodySize : ℕ → List ℕ → List ℕ → List ℕ → ℕ
+bodySize id kinds words rest =
+    1 + (length (lebBytes id) + length (lebBytes (length kinds)))
+    + (bitmapBytes (length kinds) + length (blocksBytes (heldAll kinds (wordList words) rest)))
+
 -- ---- a good list: what it holds, and the length of the body
 pub record Good (id : ℕ) (kinds words rest : List ℕ) (size : ℕ) : Type 0 where
   pub listed : valueList kinds words rest ≡ gives (heldAll kinds (wordList words) rest)
@@ -104,9 +110,7 @@ pub record Good (id : ℕ) (kinds words rest : List ℕ) (size : ℕ) : Type 0 w
   pub even : length kinds ≡ length words / 8
   pub columns : length kinds ≤ 65536
   pub fits : usedAll kinds (wordList words) ≤ length rest
-  pub sum :
-      size ≡ 1 + (length (lebBytes id) + length (lebBytes (length kinds)))
-      + (bitmapBytes (length kinds) + length (blocksBytes (heldAll kinds (wordList words) rest)))
+  pub sum : size ≡ bodySize id kinds words rest
   pub small : size < 2 ^ 32
 
 -- a list's refusal: 0 where it is good

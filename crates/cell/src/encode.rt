@@ -1,7 +1,7 @@
 // Writing a local entry from its value list: the port of `Cell::encode`.
 ghost use mathlib.Core.Path.{_≡_};
 ghost use mathlib.Core.List.{[], _∷_, _++_};
-ghost use Prim.Native.Nat.{_+_, _*_, _/_, _≤_, _<_};
+ghost use Prim.Native.Nat.{_+_, _*_, _/_, _^_, _≤_, _<_};
 ghost use lib.Dec.{eqb};
 ghost use lib.ListN.{length, take, drop, getD};
 ghost use mir.Syntax.{w64};
@@ -14,7 +14,7 @@ ghost use Rattle.cell.specs.Block.{bitmapBytes};
 ghost use Rattle.cell.specs.Written.{blockBytes, blocksBytes, encoded, writeCell};
 ghost use Rattle.cell.specs.ValueList.{items};
 ghost use Rattle.utf8.specs.WellFormed.{checkText};
-ghost use Rattle.cell.specs.Listing.{wordList, used, held, payload, blockLen, usedAll, heldAll, kindBit, kindBits, kindMap, judged, Judged, blocksLen, headOf, columnsOf, bodyOf, Good, Measures};
+ghost use Rattle.cell.specs.Listing.{wordList, used, held, payload, blockLen, usedAll, heldAll, kindBit, kindBits, kindMap, judged, Judged, blocksLen, headOf, columnsOf, bodyOf, bodySize, Good, Measures};
 
 const KIND_LOCAL: u8 = 1;
 
@@ -48,7 +48,7 @@ fn word_at(words: &[u8], i: usize) -> u64
 
 // The data bytes that a column takes.
 fn data_used(kind: u8, word: u64) -> usize
-    requires { ⌜ used kind word < 0x1_0000_0000_0000_0000 ⌝ }
+    requires { ⌜ used kind word < 2 ^ 64 ⌝ }
     ensures { λ r. ⌜ r ≡ used kind word ⌝ }
 {
     if kind == TEXT {
@@ -167,7 +167,7 @@ fn measure_blocks(kinds: &[u8], words: &[u8], data: &[u8]) -> Measured
     requires { ⌜ length (now kinds) ≤ 65536 ⌝ }
     requires { ⌜ length (now «data») ≤ 16777216 ⌝ }
     ensures { λ r. ⌜ judged (r .refusal) (r .bytes) ≡ blocksLen (items (now (kinds .entry)) (wordList (now (words .entry))) (now («data» .entry))) ⌝ }
-    ensures { λ r. ⌜ r .bytes ≤ 17498112 ⌝ }
+    ensures { λ r. ⌜ r .bytes ≤ 11 * 65536 + 16777216 ⌝ }
 {
     let mut i: usize = 0;
     let mut from: usize = 0;
@@ -441,9 +441,9 @@ fn put_columns(out: &mut [u8], kinds: &[u8], words: &[u8], data: &[u8])
 }
 
 // The body of a good list.
-fn put_body(out: &mut [u8], size: usize, id: u64, kinds: &[u8], words: &[u8], data: &[u8])
-    requires { ⌜ Good id (now kinds) (now words) (now «data») size ⌝ }
-    requires { ⌜ size ≤ length (now out) ⌝ }
+fn put_body(out: &mut [u8], id: u64, kinds: &[u8], words: &[u8], data: &[u8])
+    requires { ⌜ Good id (now kinds) (now words) (now «data») (bodySize id (now kinds) (now words) (now «data»)) ⌝ }
+    requires { ⌜ bodySize id (now kinds) (now words) (now «data») ≤ length (now out) ⌝ }
     ensures { λ _. ⌜ now (out .exit) ≡ over (now (out .entry)) (bodyOf id (now (kinds .entry)) (now (words .entry)) (now («data» .entry))) ⌝ }
 {
     let n = put_head(out, id, kinds.len() as u64);
@@ -457,7 +457,7 @@ fn put_entry(out: &mut [u8], size: usize, id: u64, kinds: &[u8], words: &[u8], d
     ensures { λ _. ⌜ now (out .exit) ≡ over (now (out .entry)) (lebBytes size ++ bodyOf id (now (kinds .entry)) (now (words .entry)) (now («data» .entry))) ⌝ }
 {
     let n = put_varint(out, size as u64);
-    put_body(&mut out[n..], size, id, kinds, words, data);
+    put_body(&mut out[n..], id, kinds, words, data);
 }
 
 // Writes the entry of a value list: its kinds, its words of eight bytes each, and its data. A refused write changes no byte.
