@@ -19,3 +19,4 @@ pub mod KeyWriting
 pub mod Lengths
 pub mod Reread
 pub mod WrittenRead
+pub mod ReadWritten

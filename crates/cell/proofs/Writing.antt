@@ -2,7 +2,7 @@
 -- Assumes nothing.
 use mathlib.Core.Path.{_≡_, refl, sym, _∙_, ap}
 use mathlib.Core.List.{List, [], _∷_, _++_, append-assoc}
-use Prim.Native.Nat.{ℕ, _+_, _-_, _/_, _%_, _≤_, _<_}
+use Prim.Native.Nat.{ℕ, _+_, _-_, _*_, _/_, _%_, _≤_, _<_}
 use native.Mathlib.Omega.{arith}
 use lib.IntN.{ℤ}
 use lib.ListN.{length, take, drop, length-append}
@@ -70,7 +70,7 @@ module _ (id : ℕ) (kinds words rest : List ℕ) where
                 by (gives cs) f g = absurd (gives-refuses (sym g))
                 by (refuses k) f g = record { refused = λ _. list-is ∙ f ∙ ap refuses (refuses-one (sym g)); good = λ y. absurd (z y) }
 
-            module _ {r n : ℕ} (j : judged r n ≡ blocksLen (items kinds (wordList words) rest)) (m : n ≤ 17498112) (z : r ≡ 0) where
+            module _ {r n : ℕ} (j : judged r n ≡ blocksLen (items kinds (wordList words) rest)) (m : n ≤ 11 * 65536 + 16777216) (z : r ≡ 0) where
               pub list-good : {p q o : ℕ} → p ≡ length (lebBytes id) → p ≤ 10 → q ≡ length (lebBytes (length kinds)) → q ≤ 10 → o ≡ bitmapBytes (length kinds) → o ≤ 8192
                   → Measures id kinds words rest 0 (1 + (p + q) + (o + n))
               unfolding judged pick blocksLen

@@ -59,7 +59,7 @@ byte-below [] i b = omega arith
 byte-below (x ∷ s) zero b = b .0
 byte-below (x ∷ s) (suc i) b = byte-below s i (b .1)
 
-le-below : (n i : ℕ) (s : List ℕ) → Bytes s → le n i s < 2 ^ (8 * n)
+pub le-below : (n i : ℕ) (s : List ℕ) → Bytes s → le n i s < 2 ^ (8 * n)
 le-below zero i s b = omega arith
 le-below (suc n) i s b =
     let h : le n (suc i) s < 2 ^ (8 * n) = le-below n (suc i) s b in
@@ -67,7 +67,7 @@ le-below (suc n) i s b =
     let p : 2 ^ (8 * suc n) ≡ 256 * 2 ^ (8 * n) = rw f (pow-add 2 8 (8 * n)) in
     rw p (omega (arith, byte-below s i b))
 
-bytes-drop : (n : ℕ) (s : List ℕ) → Bytes s → Bytes (drop n s)
+pub bytes-drop : (n : ℕ) (s : List ℕ) → Bytes s → Bytes (drop n s)
 bytes-drop zero s b = b
 bytes-drop (suc n) [] b = tt
 bytes-drop (suc n) (x ∷ s) b = bytes-drop n s (b .1)

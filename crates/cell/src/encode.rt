@@ -1,7 +1,7 @@
 // Writing a local entry from its value list: the port of `Cell::encode`.
 ghost use mathlib.Core.Path.{_≡_};
 ghost use mathlib.Core.List.{[], _∷_, _++_};
-ghost use Prim.Native.Nat.{_+_, _*_, _/_, _≤_, _<_};
+ghost use Prim.Native.Nat.{_+_, _*_, _/_, _^_, _≤_, _<_};
 ghost use lib.Dec.{eqb};
 ghost use lib.ListN.{length, take, drop, getD};
 ghost use mir.Syntax.{w64};
@@ -48,7 +48,7 @@ fn word_at(words: &[u8], i: usize) -> u64
 
 // The data bytes that a column takes.
 fn data_used(kind: u8, word: u64) -> usize
-    requires { ⌜ used kind word < 0x1_0000_0000_0000_0000 ⌝ }
+    requires { ⌜ used kind word < 2 ^ 64 ⌝ }
     ensures { λ r. ⌜ r ≡ used kind word ⌝ }
 {
     if kind == TEXT {
@@ -167,7 +167,7 @@ fn measure_blocks(kinds: &[u8], words: &[u8], data: &[u8]) -> Measured
     requires { ⌜ length (now kinds) ≤ 65536 ⌝ }
     requires { ⌜ length (now «data») ≤ 16777216 ⌝ }
     ensures { λ r. ⌜ judged (r .refusal) (r .bytes) ≡ blocksLen (items (now (kinds .entry)) (wordList (now (words .entry))) (now («data» .entry))) ⌝ }
-    ensures { λ r. ⌜ r .bytes ≤ 17498112 ⌝ }
+    ensures { λ r. ⌜ r .bytes ≤ 11 * 65536 + 16777216 ⌝ }
 {
     let mut i: usize = 0;
     let mut from: usize = 0;

@@ -105,7 +105,7 @@ sequence-below (more {group = g} {rest = m} {bytes = bs} h r) (suc k) e =
     let p : 2 ^ (7 * suc k) ≡ 128 * 2 ^ (7 * k) = rw f (pow-add 2 7 (7 * k)) in
     rw p (omega arith)
 
-sequence-bound : {bytes : List ℕ} {m : ℕ} → Leb128 bytes m → m < 2 ^ (7 * length bytes)
+pub sequence-bound : {bytes : List ℕ} {m : ℕ} → Leb128 bytes m → m < 2 ^ (7 * length bytes)
 sequence-bound (last h) = h
 sequence-bound (more {group = g} {rest = m} {bytes = bs} h r) =
     let l : m < 2 ^ (7 * length bs) = sequence-bound r in

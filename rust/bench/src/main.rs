@@ -15,6 +15,8 @@ fn main() {
 }
 
 #[cfg(not(oracle_missing))]
+mod cell;
+#[cfg(not(oracle_missing))]
 mod references;
 #[cfg(not(oracle_missing))]
 mod timing;
@@ -41,5 +43,6 @@ fn main() {
     let mut table = timing::Table::new(rounds, names);
     varint::cases(&mut table);
     utf8::cases(&mut table);
+    cell::cases(&mut table);
     references::cases(&mut table);
 }

@@ -17,6 +17,8 @@ fn main() {
 }
 
 #[cfg(not(oracle_missing))]
+mod cell;
+#[cfg(not(oracle_missing))]
 mod frame;
 #[cfg(not(oracle_missing))]
 mod inputs;
@@ -35,7 +37,7 @@ mod varint;
 
 /// Lowest first.
 #[cfg(not(oracle_missing))]
-const LAYERS: &[frame::Layer] = &[varint::LAYER, utf8::LAYER, references::LAYER];
+const LAYERS: &[frame::Layer] = &[varint::LAYER, utf8::LAYER, cell::LAYER, references::LAYER];
 
 #[cfg(not(oracle_missing))]
 fn main() {

@@ -1,9 +1,9 @@
 //! Overflow references, paged entries (overflow.rs, first half) and interior cells (interior_page.rs).
 
 use crate::frame::{Call, Comparison, Expected, Input, Layer, Part, expect, expect_written};
-use crate::inputs;
+use crate::inputs::{self, leb, leb_in};
 use crate::random::Random;
-use crate::varint::{forms, leb};
+use crate::varint::forms;
 use Part::{Bytes, Number, Output};
 use seremonek::ffi;
 
@@ -121,14 +121,9 @@ fn writing(numbers: [u64; 4], output: &[u8]) -> Input<'_> {
 
 // Entries are put together here anew, so that they lean on neither side.
 
-/// The shortest form.
-fn number(value: u64) -> Vec<u8> {
-    forms(value).next().unwrap()
-}
-
 /// `body` behind its length.
 fn entry(body: &[u8]) -> Vec<u8> {
-    [&number(body.len() as u64)[..], body].concat()
+    [&leb(body.len() as u64)[..], body].concat()
 }
 
 /// A reference's body, of numbers in any form.
@@ -160,13 +155,13 @@ fn some_block(random: &mut Random) -> Vec<u8> {
         1 => block.extend(random.bytes(8)),
         2 => {
             let text = *random.pick(&["", "A", "gate 4", "Łódź", "東京", "🚀 ok"]);
-            block.extend(number(text.len() as u64));
+            block.extend(leb(text.len() as u64));
             block.extend(text.as_bytes());
         }
         3 => block.push(random.below(2) as u8),
         _ => {
             let dimension = random.below(4);
-            block.extend(number(dimension));
+            block.extend(leb(dimension));
             block.extend(random.bytes(4 * dimension as usize));
         }
     }
@@ -218,7 +213,7 @@ fn all(run: &mut Comparison, places: &[usize; 3], buf: &[u8], pos: usize) {
 
 /// `body` behind the length of it and of `more` bytes; alone, and with something behind it.
 fn framed(run: &mut Comparison, places: &[usize; 3], body: &[u8], more: u64) {
-    let mut buf = number(body.len() as u64 + more);
+    let mut buf = leb(body.len() as u64 + more);
     buf.extend(body);
     all(run, places, &buf, 0);
     buf.extend([0x01, 0x80]);
@@ -289,12 +284,12 @@ fn limits(run: &mut Comparison, places: &[usize; 3]) {
             }
         }
         // Lengths near the machine word's end: past the buffer, or past all numbers.
-        let mut buf = number(value);
+        let mut buf = leb(value);
         buf.extend([OVERFLOW, 0x0E, 0x88, 0x27, 9, 0, 0, 0]);
         all(run, places, &buf, 0);
         for block in [2, 4] {
             let mut body = vec![LOCAL, 0, 1, 0, block];
-            body.extend(number(value));
+            body.extend(leb(value));
             framed(run, places, &body, 0);
             body.extend([b'A'; 8]);
             framed(run, places, &body, 0);
@@ -303,7 +298,7 @@ fn limits(run: &mut Comparison, places: &[usize; 3]) {
     for page in PAGES {
         for length in 1..=10 {
             for body in [reference(&[0x0E], &[0x88, 0x27], page), interior(&[0x14], page)] {
-                let buf = [&leb(body.len() as u64, length)[..], &body].concat();
+                let buf = [&leb_in(body.len() as u64, length)[..], &body].concat();
                 all(run, places, &buf, 0);
             }
         }

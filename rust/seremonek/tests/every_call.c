@@ -54,6 +54,39 @@ static void utf8(void) {
     EXPECT(smk_utf8_check(past_the_last, 4) == 8);
 }
 
+static void cell(void) {
+    /* rowid 1, Integer 5, null, Text A, Bool true */
+    const uint8_t entry[12] = {0x0B, 0x01, 0x02, 0x04, 0x02, 0x00, 0x0A, 0x02, 0x01, 0x41, 0x03, 0x01};
+    const uint8_t kinds[4] = {0, 255, 2, 3};
+    const uint8_t words[32] = {5, 0, 0, 0, 0, 0, 0, 0, 0, 0, 0, 0, 0, 0, 0, 0, 1, 0, 0, 0, 0, 0, 0, 0, 1};
+    const uint8_t text[1] = {0x41};
+    uint64_t answer[4] = {7, 7, 7, 7};
+    uint8_t out[13];
+
+    EXPECT(smk_peek_kind(entry, 12, 0, answer) == 0 && answer[0] == 1 && answer[1] == 7);
+    EXPECT(smk_peek_rowid(entry, 12, 0, answer) == 0 && answer[0] == 1 && answer[1] == 7);
+    EXPECT(smk_encoded_size_at(entry, 12, 0, answer) == 0 && answer[0] == 12 && answer[1] == 7);
+    EXPECT(smk_peek_kind(entry, 1, 0, answer) == 4 && answer[0] == 12);
+
+    EXPECT(smk_cell_decode(entry, 12, 0, answer) == 0);
+    EXPECT(answer[0] == 1 && answer[1] == 4 && answer[2] == 12 && answer[3] == 7);
+    EXPECT(smk_cell_decode(entry, 11, 0, answer) == 3 && answer[2] == 12);
+
+    EXPECT(smk_cell_value(entry, 12, 0, 0, answer) == 0 && answer[0] == 0 && answer[1] == 5 && answer[2] == 0);
+    EXPECT(smk_cell_value(entry, 12, 0, 1, answer) == 0 && answer[0] == 255 && answer[1] == 0 && answer[2] == 0);
+    EXPECT(smk_cell_value(entry, 12, 0, 2, answer) == 0 && answer[0] == 2 && answer[1] == 1 && answer[2] == 9);
+    EXPECT(smk_cell_value(entry, 12, 0, 3, answer) == 0 && answer[0] == 3 && answer[1] == 1 && answer[2] == 0);
+    EXPECT(smk_cell_value(entry, 12, 0, 4, answer) == 12 && answer[0] == 3 && answer[3] == 7);
+
+    memset(out, 0xEE, sizeof out);
+    EXPECT(smk_cell_encode(1, kinds, 4, words, 32, text, 1, out, 11, answer) == 16 && out[0] == 0xEE && answer[0] == 3);
+    EXPECT(smk_cell_encode(1, kinds, 4, words, 32, text, 1, out, 13, answer) == 0 && answer[0] == 12 && answer[1] == 1);
+    EXPECT(memcmp(out, entry, 12) == 0 && out[12] == 0xEE);
+    EXPECT(smk_cell_encoded_len(1, kinds, 4, words, 32, text, 1, answer) == 0 && answer[0] == 12 && answer[1] == 1);
+    EXPECT(smk_cell_encoded_len(1, kinds, 4, words, 32, text, 0, answer) == 15 && answer[0] == 12);
+    EXPECT(smk_cell_encoded_len(1, kinds, 4, words, 31, text, 1, answer) == 25);
+}
+
 static void references(void) {
     /* Rowid 7, total 5,000, page 9; then a local entry with rowid 0 and no columns. */
     const uint8_t entries[13] = {0x08, 0x02, 0x0E, 0x88, 0x27, 0x09, 0x00, 0x00, 0x00, 0x03, 0x01, 0x00, 0x00};
@@ -105,6 +138,7 @@ static void interior_cells(void) {
 int main(void) {
     varint();
     utf8();
+    cell();
     references();
     interior_cells();
     return failed;
