@@ -16,7 +16,10 @@ pub mod Measuring
 pub mod Listed
 pub mod Writing
 pub mod KeyWriting
+pub mod Whole
 pub mod Lengths
 pub mod Reread
 pub mod WrittenRead
+pub mod KeyBack
 pub mod ReadWritten
+pub mod Exact

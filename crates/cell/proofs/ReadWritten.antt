@@ -78,7 +78,7 @@ module _ (body : List ℕ) (at : ℕ) (b : Bytes body) where
 
   integer-fine : (a : Answer (ℕ × ℕ)) → readU64 body (at + 1) ≡ a
       → Fine body at (andThen (andThen a (λ (u, n). gives (unzigzag u, n))) (λ (v, n). gives (integer v, at + 1 + n)))
-  unfolding andThen contentOf blockBytes lenU64
+  unfolding andThen contentOf blockBytes
   integer-fine (refuses k) e = tt
   integer-fine (gives (u, n)) e =
       let (h, l) = number-fine e in
@@ -96,7 +96,7 @@ module _ (body : List ℕ) (at : ℕ) (b : Bytes body) where
 
   text-fine : (a : Answer (ℕ × ℕ)) → readU64 body (at + 1) ≡ a
       → Fine body at (andThen a (λ (len, n). andThen (checkAt body (at + 1 + n) len) (λ _. gives (text (at + 1 + n) len, at + 1 + n + len))))
-  unfolding andThen checkAt pick contentOf blockBytes lenU64
+  unfolding andThen checkAt pick contentOf blockBytes
   text-fine (refuses k) e = tt
   text-fine (gives (len, n)) e =
       by (leb (at + 1 + n + len) (length body)) refl (checkText (take len (drop (at + 1 + n) body))) refl
@@ -114,7 +114,7 @@ module _ (body : List ℕ) (at : ℕ) (b : Bytes body) where
 
   vector-fine : (a : Answer (ℕ × ℕ)) → readU64 body (at + 1) ≡ a
       → Fine body at (andThen a (λ (dim, n). pick (ltb ((length body - (at + 1 + n)) / 4) dim) (refuses 7) (gives (vector (at + 1 + n) dim, at + 1 + n + 4 * dim))))
-  unfolding andThen pick contentOf blockBytes lenU64
+  unfolding andThen pick contentOf blockBytes
   vector-fine (refuses k) e = tt
   vector-fine (gives (dim, n)) e = by (ltb ((length body - (at + 1 + n)) / 4) dim) refl
     where
@@ -199,7 +199,7 @@ module _ (body : List ℕ) (b : Bytes body) where
   module _ {u n count m : ℕ} (e : readU64 body 1 ≡ gives (u, n)) (f : readU64 body (1 + n) ≡ gives (count, m)) where
     ended-fine : (bs : List Block) (end : ℕ) → ShortAll body count (1 + n + m + bitmapBytes count) bs end → (t : Bool) → eqb end (length body) ≡ t
         → FineRow body (andThen (pick t (gives bs) (refuses 10)) (λ bs. gives (unzigzag u, bs)))
-    unfolding andThen pick bodyBytes readU64 lenU64
+    unfolding andThen pick bodyBytes readU64
     ended-fine bs end w false g = tt
     ended-fine bs end w true g =
         let cs : List Content = map (contentOf body) bs in

@@ -3,6 +3,7 @@ pub mod Block
 pub mod Local
 pub mod Words
 pub mod Keyed
+pub mod View
 pub mod ByColumn
 pub mod PaperValue
 pub mod Content

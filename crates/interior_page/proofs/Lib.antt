@@ -1,2 +1,5 @@
 pub mod Dividers
 pub mod DividerWriting
+pub mod DividerView
+pub mod DividerBack
+pub mod Exact

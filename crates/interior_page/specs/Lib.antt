@@ -1,3 +1,4 @@
 pub mod InteriorCells
 pub mod Paper
 pub mod Words
+pub mod View

@@ -2,3 +2,4 @@ pub mod Reference
 pub mod Paged
 pub mod Paper
 pub mod Words
+pub mod View

@@ -1,0 +1,214 @@
+-- A whole entry reads the same with anything behind it, lies inside its list, and its rowid is the one that is peeked at.
+-- Assumes nothing.
+use mathlib.Core.Path.{_≡_, refl, sym, _∙_, ap}
+use mathlib.Core.Bool.{Bool, true, false}
+use mathlib.Core.List.{List, [], _∷_, _++_, append-assoc}
+use Prim.Native.Nat.{ℕ, zero, suc, _+_, _-_, _≤_, _<_}
+use native.Mathlib.Nat.{add-zero}
+use native.Mathlib.Omega.{arith}
+use lib.Dec.{ltb, eqb}
+use lib.IntN.{ℤ}
+use lib.ListN.{length, take, drop, getD, length-append, length-drop, length-take, take-append-drop, List·getD-append}
+use lib.Seq.{take-add, take-take, take-append-le, drop-append-le, length-take-le, getD-take, getD-drop, drop-drop, take-at, drop-at}
+use borrow.Author.Tests.{lt-ltb, le-ltb, ltb-false, eqb-true, eqb-false}
+use Rattle.paper.specs.Answer.{Answer, gives, refuses, andThen, pick}
+use Rattle.paper.proofs.Laws.{gives-one, gives-refuses, first, second}
+use Rattle.varint.specs.Leb.{readFrom, readU64}
+use Rattle.varint.specs.Number.{readI64}
+use Rattle.varint.specs.Zigzag.{unzigzag}
+use Rattle.varint.proofs.Laws.{read-is, read-append}
+use Rattle.cell.specs.Entry.{framed, bodyAt, entry, peekKind, peekRowid, rowidAt}
+use Rattle.cell.specs.Block.{Block}
+use Rattle.cell.specs.Keyed.{keyedAt}
+use Rattle.cell.specs.Local.{blocksAt, rowOf, localBody}
+
+-- ---- the frame
+pub record Framing (s : List ℕ) (n len : ℕ) : Type 0 where
+  pub read : readFrom s ≡ gives (len, n)
+  pub some : 1 ≤ n
+  pub inside : n + len ≤ length s
+
+pub framing : (s : List ℕ) {n len : ℕ} → framed s ≡ gives (n, len) → Framing s n len
+unfolding framed andThen pick
+framing s {n} {len} e = by (readFrom s) refl e
+  where
+    by2 : (p : ℕ × ℕ) → readFrom s ≡ gives p → (t : Bool) → ltb (length s - p .1) (p .0) ≡ t
+        → pick {A = Answer (ℕ × ℕ)} t (refuses 3) (gives (p .1, p .0)) ≡ gives (n, len) → Framing s n len
+    by2 p h true t f = absurd (gives-refuses (sym f))
+    by2 p h false t f =
+        let w = read-is s h in
+        let c : p .0 ≤ length s - p .1 = ltb-false (length s - p .1) (p .0) t in
+        let i : p .1 ≤ length s = w .inside in
+        let a : p .1 ≡ n = ap first (gives-one f) in
+        let b : p .0 ≡ len = ap second (gives-one f) in
+        record { read = rw (← a, ← b) h; some = rw a at (w .some); inside = rw (← a, ← b) (omega arith) }
+
+    by : (a : Answer (ℕ × ℕ)) → readFrom s ≡ a
+        → andThen {B = ℕ × ℕ} a (λ (len, n). pick (ltb (length s - n) len) (refuses 3) (gives (n, len))) ≡ gives (n, len) → Framing s n len
+    by (gives p) h f = by2 p h (ltb (length s - p .1) (p .0)) refl f
+    by (refuses k) h f = absurd (gives-refuses (sym f))
+
+module _ (s : List ℕ) {n len : ℕ} (w : Framing s n len) (t : List ℕ) where
+  whole-length : length (take (n + len) s) ≡ n + len
+  whole-length = length-take-le (n + len) s (w .inside)
+
+  -- the length varint stands in the entry's own bytes
+  whole-read : readFrom (take (n + len) s ++ t) ≡ gives (len, n)
+  whole-read =
+      let r = read-is s (w .read) in
+      let d : take (n + len) s ++ t ≡ take n s ++ (take len (drop n s) ++ t)
+      = rw (take-add n len s, append-assoc (take n s) (take len (drop n s)) t) in
+      rw d (r .anywhere (take len (drop n s) ++ t))
+
+  pub whole-framed : framed (take (n + len) s ++ t) ≡ gives (n, len)
+  unfolding framed andThen pick
+  whole-framed =
+      let l : len ≤ length (take (n + len) s ++ t) - n = rw (length-append (take (n + len) s) t, whole-length) (omega arith) in
+      rw (whole-read, le-ltb (length (take (n + len) s ++ t) - n) len l)
+
+  pub whole-body : bodyAt (take (n + len) s ++ t) n len ≡ bodyAt s n len
+  whole-body =
+      let a : take (n + len) s ++ t ≡ take n s ++ (take len (drop n s) ++ t)
+      = rw (take-add n len s, append-assoc (take n s) (take len (drop n s)) t) in
+      let k : length (take n s) ≡ n = length-take-le n s (omega (arith, w .inside)) in
+      let m : length (take len (drop n s)) ≡ len = length-take-le len (drop n s) (rw (length-drop n s) (omega (arith, w .inside))) in
+      rw (a, drop-at (take n s) (take len (drop n s) ++ t) n k, take-at (take len (drop n s)) t len m)
+
+-- ---- an entry of any kind
+pub record Whole {A : Type 0} (read : List ℕ → Answer A) (s : List ℕ) (a : A) (size : ℕ) : Type 0 where
+  pub place : ℕ
+  pub len : ℕ
+  pub frame : Framing s place len
+  pub sum : place + len ≡ size
+  pub body : read (bodyAt s place len) ≡ gives a
+
+module _ {A : Type 0} (read : List ℕ → Answer A) where
+  pub whole-is : (s : List ℕ) {a : A} {size : ℕ} → entry read s ≡ gives (a, size) → Whole read s a size
+  unfolding entry andThen
+  whole-is s {a} {size} e = by (framed s) refl e
+    where
+      by2 : (p : ℕ × ℕ) → framed s ≡ gives p → (b : Answer A) → read (bodyAt s (p .0) (p .1)) ≡ b
+          → andThen {B = A × ℕ} b (λ x. gives (x, p .0 + p .1)) ≡ gives (a, size) → Whole read s a size
+      by2 p h (gives x) g f =
+          record {
+            place = p .0;
+            len = p .1;
+            frame = framing s h;
+            sum = ap second (gives-one f);
+            body = g ∙ ap gives (ap first (gives-one f));
+          }
+      by2 p h (refuses k) g f = absurd (gives-refuses (sym f))
+
+      by : (q : Answer (ℕ × ℕ)) → framed s ≡ q
+          → andThen {B = A × ℕ} q (λ (n, len). andThen (read (bodyAt s n len)) (λ x. gives (x, n + len))) ≡ gives (a, size) → Whole read s a size
+      by (gives p) h f = by2 p h (read (bodyAt s (p .0) (p .1))) refl f
+      by (refuses k) h f = absurd (gives-refuses (sym f))
+
+  module _ (s : List ℕ) {a : A} {size : ℕ} (w : Whole read s a size) where
+    pub whole-some : 1 ≤ size
+    whole-some = omega (arith, w .frame .some, w .sum)
+
+    pub whole-inside : size ≤ length s
+    whole-inside = omega (arith, w .frame .inside, w .sum)
+
+    pub whole-anywhere : (t : List ℕ) → entry read (take size s ++ t) ≡ gives (a, size)
+    unfolding entry andThen
+    whole-anywhere t =
+        rw (← w .sum, whole-framed s (w .frame) t, whole-body s (w .frame) t, w .body)
+
+-- ---- a body that has a kind and a rowid
+pub record HasKey (kind : ℕ) (body : List ℕ) (rowid : ℤ) : Type 0 where
+  pub some : 1 ≤ length body
+  pub first-byte : getD body 0 0 ≡ kind
+  pub taken : ℕ
+  pub read : readI64 body 1 ≡ gives (rowid, taken)
+
+row-keyed : (body : List ℕ) {rowid : ℤ} {bs : List Block} → rowOf body ≡ gives (rowid, bs) → (n : ℕ) × (readI64 body 1 ≡ gives (rowid, n))
+unfolding rowOf andThen
+row-keyed body {rowid} {bs} e = by (readI64 body 1) refl e
+  where
+    by3 : (z : ℤ) (a : Answer (List Block)) → andThen {B = ℤ × List Block} a (λ xs. gives (z, xs)) ≡ gives (rowid, bs) → z ≡ rowid
+    by3 z (gives xs) f = ap first (gives-one f)
+    by3 z (refuses k) f = absurd (gives-refuses (sym f))
+
+    by2 : (p : ℤ × ℕ) (a : Answer (ℕ × ℕ)) → andThen {B = ℤ × List Block} a (λ (count, m). andThen (blocksAt count body (1 + p .1 + m)) (λ xs. gives (p .0, xs))) ≡ gives (rowid, bs) → p .0 ≡ rowid
+    by2 p (gives q) f = by3 (p .0) (blocksAt (q .0) body (1 + p .1 + q .1)) f
+    by2 p (refuses k) f = absurd (gives-refuses (sym f))
+
+    by : (a : Answer (ℤ × ℕ)) → readI64 body 1 ≡ a
+        → andThen {B = ℤ × List Block} a (λ (z, n). andThen (readU64 body (1 + n)) (λ (count, m). andThen (blocksAt count body (1 + n + m)) (λ xs. gives (z, xs)))) ≡ gives (rowid, bs)
+        → (n : ℕ) × (readI64 body 1 ≡ gives (rowid, n))
+    by (gives p) h f = (p .1, h ∙ ap (λ (z : ℤ). gives (z, p .1)) (by2 p (readU64 body (1 + p .1)) f))
+    by (refuses k) h f = absurd (gives-refuses (sym f))
+
+pub local-key : (body : List ℕ) {rowid : ℤ} {bs : List Block} → localBody body ≡ gives (rowid, bs) → HasKey 1 body rowid
+unfolding localBody pick
+local-key body {rowid} {bs} e = by (eqb (length body) 0) refl (eqb (getD body 0 0) 1) refl e
+  where
+    by : (t : Bool) → eqb (length body) 0 ≡ t → (u : Bool) → eqb (getD body 0 0) 1 ≡ u
+        → pick t (refuses 4) (pick u (rowOf body) (refuses 5)) ≡ gives (rowid, bs) → HasKey 1 body rowid
+    by true t u v f = absurd (gives-refuses (sym f))
+    by false t true u f =
+        let (n, r) = row-keyed body f in
+        let z = eqb-false (length body) 0 t in
+        record { some = omega (arith, z); first-byte = eqb-true (getD body 0 0) 1 u; taken = n; read = r }
+    by false t false u f = absurd (gives-refuses (sym f))
+
+pub keyed-key : (kind : ℕ) (body : List ℕ) {rowid : ℤ} {at : ℕ} → keyedAt kind body ≡ gives (rowid, at) → HasKey kind body rowid
+unfolding keyedAt pick andThen
+keyed-key kind body {rowid} {at} e = by (eqb (length body) 0) refl (eqb (getD body 0 0) kind) refl (readI64 body 1) refl e
+  where
+    by : (t : Bool) → eqb (length body) 0 ≡ t → (u : Bool) → eqb (getD body 0 0) kind ≡ u → (a : Answer (ℤ × ℕ)) → readI64 body 1 ≡ a
+        → pick t (refuses 5) (pick u (andThen {B = ℤ × ℕ} a (λ (z, n). gives (z, 1 + n))) (refuses 5)) ≡ gives (rowid, at) → HasKey kind body rowid
+    by true t u v a h f = absurd (gives-refuses (sym f))
+    by false t false u a h f = absurd (gives-refuses (sym f))
+    by false t true u (gives p) h f =
+        let z = eqb-false (length body) 0 t in
+        record {
+          some = omega (arith, z);
+          first-byte = eqb-true (getD body 0 0) kind u;
+          taken = p .1;
+          read = h ∙ ap (λ (x : ℤ). gives (x, p .1)) (ap first (gives-one f));
+        }
+    by false t true u (refuses k) h f = absurd (gives-refuses (sym f))
+
+-- ---- what is peeked at is what is read
+module _ (s : List ℕ) {n len kind : ℕ} {rowid : ℤ} (w : Framing s n len) (k : HasKey kind (bodyAt s n len) rowid) where
+  body-length : length (bodyAt s n len) ≡ len
+  body-length = length-take-le len (drop n s) (rw (length-drop n s) (omega (arith, w .inside)))
+
+  kind-inside : n < length s
+  kind-inside = omega (arith, w .inside, k .some, body-length)
+
+  kind-byte : getD s n 0 ≡ kind
+  kind-byte =
+      let l : 0 < len = omega (arith, k .some, body-length) in
+      let e : getD (take len (drop n s)) 0 0 ≡ getD s (n + 0) 0 = getD-take len (drop n s) 0 0 l ∙ getD-drop n s 0 0 in
+      rw (add-zero n) at (sym e ∙ k .first-byte)
+
+  pub kind-peeked : peekKind s ≡ gives kind
+  unfolding peekKind andThen pick
+  kind-peeked = rw (w .read, lt-ltb n (length s) kind-inside, kind-byte)
+
+  -- the rowid's bytes are those behind the kind byte, whatever stands behind the body
+  rowid-bytes : drop (n + 1) s ≡ drop 1 (bodyAt s n len) ++ drop (n + len) s
+  rowid-bytes =
+      let l : 1 ≤ length (take len (drop n s)) = k .some in
+      let e : drop n s ≡ take len (drop n s) ++ drop (n + len) s = sym (rw (drop-drop len n s) at (take-append-drop len (drop n s))) in
+      sym (drop-drop 1 n s) ∙ ap (drop 1) e ∙ drop-append-le 1 (take len (drop n s)) (drop (n + len) s) l
+
+  pub rowid-peeked : peekRowid s ≡ gives rowid
+  unfolding peekRowid rowidAt readI64 readU64 andThen pick
+  rowid-peeked = rw (w .read, lt-ltb n (length s) kind-inside, rowid-bytes) (by (readFrom (drop 1 (bodyAt s n len))) refl (k .read))
+    where
+      by : (a : Answer (ℕ × ℕ)) → readFrom (drop 1 (bodyAt s n len)) ≡ a → andThen {B = ℤ × ℕ} a (λ (u, m). gives (unzigzag u, m)) ≡ gives (rowid, k .taken)
+          → andThen (andThen {B = ℤ × ℕ} (readFrom (drop 1 (bodyAt s n len) ++ drop (n + len) s)) (λ (u, m). gives (unzigzag u, m))) (λ (z, m). gives z) ≡ gives rowid
+      by (gives p) h f = rw (read-append (drop 1 (bodyAt s n len)) h (drop (n + len) s)) (ap gives (ap first (gives-one f)))
+      by (refuses j) h f = absurd (gives-refuses (sym f))
+
+-- the kind stands in the entry's own bytes
+pub kind-anywhere : {A : Type 0} (read : List ℕ → Answer A) (s : List ℕ) {a : A} {size kind : ℕ} {rowid : ℤ} (w : Whole read s a size)
+    → HasKey kind (bodyAt s (w .place) (w .len)) rowid → (t : List ℕ) → peekKind (take size s ++ t) ≡ gives kind
+kind-anywhere read s {size = size} {rowid = rowid} w k t =
+    let f = framing (take (w .place + w .len) s ++ t) (whole-framed s (w .frame) t) in
+    rw (← w .sum) (kind-peeked (take (w .place + w .len) s ++ t) {rowid = rowid} f (rw (whole-body s (w .frame) t) k))
