@@ -57,6 +57,49 @@ int64_t smk_zigzag_decode(uint64_t value);
 /* Whether all of `bytes` is text; no bytes are. Refusal 8. */
 uint32_t smk_utf8_check(const uint8_t *bytes, size_t bytes_len);
 
+/* Entries: a body's length and the body, which starts with a kind byte: 1 local (a row), 2 overflow, 3 interior. */
+
+/* Of the entry at `pos`, of whatever kind and wherever its body ends: its kind; its rowid; its bytes, the length's own among them. Refusals 1, 2, and 4; the last
+ * one refuses 3 in place of 4. */
+uint32_t smk_peek_kind(const uint8_t *buf, size_t buf_len, size_t pos, uint64_t answer[1]);
+uint32_t smk_peek_rowid(const uint8_t *buf, size_t buf_len, size_t pos, uint64_t answer[1]);
+uint32_t smk_encoded_size_at(const uint8_t *buf, size_t buf_len, size_t pos, uint64_t answer[1]);
+
+/* Reads the local entry at `pos`, all of it. Answer: rowid, columns, bytes. Refusals 1 to 10. */
+uint32_t smk_cell_decode(const uint8_t *buf, size_t buf_len, size_t pos, uint64_t answer[3]);
+
+/* A value of the local entry at `pos`, by its column, from 0 on. Answer: kind, word, place. Refusals 1 to 10, then 12.
+ * The kinds with their words: 0 Integer (its pattern), 1 Real (its bits), 2 Text (its bytes), 3 Bool (0 or 1), 4 Vector (its dimension), 255 null (0). The place
+ * counts from the start of `buf`: there a text's bytes stand, or a vector's, four for each dimension. It is 0 for the other kinds. */
+uint32_t smk_cell_value(const uint8_t *buf, size_t buf_len, size_t pos, uint64_t column, uint64_t answer[3]);
+
+/* Writes the local entry of a value list: kinds and words as above, a word as eight bytes, lowest first; 5 is the kind of a null inside a value. The bytes of texts
+ * and vectors stand in `data`, one behind the other. Answer: bytes. Refusals 25, 15, 27, 8; then 16, where there is an output. */
+uint32_t smk_cell_encode(int64_t rowid, const uint8_t *kinds, size_t kinds_len, const uint8_t *words, size_t words_len, const uint8_t *data, size_t data_len,
+                         uint8_t *out, size_t out_len, uint64_t answer[1]);
+uint32_t smk_cell_encoded_len(int64_t rowid, const uint8_t *kinds, size_t kinds_len, const uint8_t *words, size_t words_len, const uint8_t *data,
+                              size_t data_len, uint64_t answer[1]);
+
+/* Overflow references and paged entries. */
+
+/* The overflow reference at `pos`. Answer: rowid, total, first page, bytes taken. Refusals 1, 2, 3, 5, 6, 10. */
+uint32_t smk_overflow_decode(const uint8_t *buf, size_t buf_len, size_t pos, uint64_t answer[4]);
+
+/* Writes an overflow reference. Answer: bytes written, 8 to 26. Refusal 16. */
+uint32_t smk_overflow_encode(int64_t rowid, uint64_t total, uint32_t first, uint8_t *out, size_t out_len, uint64_t answer[1]);
+
+/* The local entry or the overflow reference at `pos`, by its kind. Answer: kind (1 local, 2 overflow), rowid, columns or total, 0 or first page, bytes
+ * taken. Refusals 1 to 10. */
+uint32_t smk_entry_decode(const uint8_t *buf, size_t buf_len, size_t pos, uint64_t answer[5]);
+
+/* Interior cells. */
+
+/* The interior cell at `pos`. Answer: divider, child page, bytes taken. Refusals 1, 2, 3, 5, 6, 10. */
+uint32_t smk_interior_cell_decode(const uint8_t *buf, size_t buf_len, size_t pos, uint64_t answer[3]);
+
+/* Writes an interior cell. Answer: bytes written, 7 to 16. Refusal 16. */
+uint32_t smk_interior_cell_encode(int64_t divider, uint32_t child, uint8_t *out, size_t out_len, uint64_t answer[1]);
+
 #ifdef __cplusplus
 }
 #endif

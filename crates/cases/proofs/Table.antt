@@ -6,7 +6,16 @@ use Prim.Native.Nat.{ℕ}
 use Rattle.paper.specs.Answer.{Answer, andThen, pick}
 use Rattle.varint.specs.Leb.{taken, sumFrom, readFrom, readU64, groups, lebBytes, lenU64, writeU64}
 use Rattle.varint.specs.Zigzag.{zigzag, unzigzag}
-use Rattle.cases.specs.Question.{Row, says}
+use Rattle.varint.specs.Number.{readI64}
+use Rattle.field.specs.Field.{bytes}
+use Rattle.utf8.specs.Table.{table}
+use Rattle.utf8.specs.WellFormed.{inside, begun, after, whole, completes, wellFormed, checkText, checkAt}
+use Rattle.cell.specs.Entry.{framed, entry}
+use Rattle.cell.specs.Block.{blockOf, block, isNull, bitmapBytes, columns}
+use Rattle.cell.specs.Local.{blocksAt, rowOf, localBody, cellFrom, headFrom, moved, nth, valueFrom, valueAt}
+use Rattle.cell.specs.ValueList.{item, items, wordsOf, valueList}
+use Rattle.cell.specs.Written.{blockBytes, blocksBytes, nullBit, nullBits, bitmap, bodyBytes, entryBytes, encoded, writeCell}
+use Rattle.cases.specs.Question.{Row, says, inNumbers, eights}
 use Rattle.cases.specs.Rows.{rows}
 
 abbrev pub said : List Row → List (Answer (List ℕ))
@@ -18,5 +27,5 @@ answers [] = []
 answers (r ∷ rs) = r .answer ∷ answers rs
 
 pub every-row : said rows ≡ answers rows
-unfolding rows says andThen pick taken sumFrom readFrom readU64 groups lebBytes writeU64 zigzag unzigzag
+unfolding rows says andThen pick taken sumFrom readFrom readU64 groups lebBytes writeU64 zigzag unzigzag readI64 inNumbers eights bytes table inside begun after whole completes wellFormed checkText checkAt framed entry blockOf block isNull bitmapBytes columns blocksAt rowOf localBody cellFrom headFrom moved nth valueFrom valueAt item items wordsOf valueList blockBytes blocksBytes nullBit nullBits bitmap bodyBytes entryBytes encoded writeCell
 every-row = refl

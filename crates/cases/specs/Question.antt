@@ -1,13 +1,17 @@
 -- A question is a call with its arguments. Its answer is what the definitions say, in numbers: the values that the call gives, in the
 -- order of document 01, or the refusal's number. Each kind of call has a constructor here and a line in `says`.
 use Prim.Native.Nat.{ℕ}
-use mathlib.Core.List.{List, [], _∷_}
+use mathlib.Core.List.{List, [], _∷_, _++_}
 use lib.IntN.{ℤ}
 use mir.Syntax.{w64}
 use mir.Val.{ofZ}
-use Rattle.paper.specs.Answer.{Answer, gives, andThen}
+use Rattle.paper.specs.Answer.{Answer, gives, andThen, pick}
+use Rattle.field.specs.Field.{bytes}
 use Rattle.varint.specs.Leb.{readU64, writeU64}
 use Rattle.varint.specs.Zigzag.{zigzag, unzigzag}
+use Rattle.cell.specs.Block.{Block, null, integer, real, bool, text, vector}
+use Rattle.cell.specs.Local.{headFrom, valueAt}
+use Rattle.cell.specs.Written.{writeCell}
 
 pub data Question : Type 0 where
   -- the number at the start of these bytes, and how many it takes
@@ -17,12 +21,35 @@ pub data Question : Type 0 where
   -- a signed number as an unsigned one; and back, as its 64-bit pattern
   zigzag-encode : ℤ → Question
   zigzag-decode : ℕ → Question
+  -- the head of the local entry at the start of these bytes: the rowid's 64-bit pattern, columns, bytes
+  cell-head : List ℕ → Question
+  -- its value in a column: kind, word, place
+  cell-value : List ℕ → ℕ → Question
+  -- the bytes of the local entry of a value list, in an output of 32: rowid, kinds, words, data
+  write-cell : ℤ → List ℕ → List ℕ → List ℕ → Question
+
+-- a value in numbers: its tag, or 255 for a null; its word; the place of a text's or a vector's bytes
+unfoldable pub inNumbers : Block → List ℕ
+inNumbers null = 255 ∷ 0 ∷ 0 ∷ []
+inNumbers (integer v) = 0 ∷ ofZ w64 v ∷ 0 ∷ []
+inNumbers (real f bits) = 1 ∷ bits ∷ 0 ∷ []
+inNumbers (text at len) = 2 ∷ len ∷ at ∷ []
+inNumbers (bool b) = 3 ∷ pick b 1 0 ∷ 0 ∷ []
+inNumbers (vector at dim) = 4 ∷ dim ∷ at ∷ []
+
+-- words as they are lent: eight bytes each, the lowest first
+unfoldable pub eights : List ℕ → List ℕ
+eights [] = []
+eights (w ∷ ws) = bytes 8 w ++ eights ws
 
 unfoldable pub says : Question → Answer (List ℕ)
 says (read-u64 bytes) = andThen (readU64 bytes 0) (λ (v, n). gives (v ∷ n ∷ []))
 says (write-u64 v) = writeU64 v 10
 says (zigzag-encode z) = gives (zigzag z ∷ [])
 says (zigzag-decode u) = gives (ofZ w64 (unzigzag u) ∷ [])
+says (cell-head s) = andThen (headFrom s) (λ (rowid, columns, n). gives (ofZ w64 rowid ∷ columns ∷ n ∷ []))
+says (cell-value s column) = andThen (valueAt s 0 column) (λ v. gives (inNumbers v))
+says (write-cell rowid kinds words rest) = writeCell rowid kinds (eights words) rest 32
 
 -- one row of the table
 pub record Row : Type 0 where

@@ -3,13 +3,17 @@ use Prim.Native.Nat.{ℕ, _-_, _^_}
 use mathlib.Core.List.{List, [], _∷_}
 use lib.IntN.{ℤ, pos, negℤ}
 use Rattle.paper.specs.Answer.{gives, refuses}
-use Rattle.cases.specs.Question.{Row, _⇒_, read-u64, write-u64, zigzag-encode, zigzag-decode}
+use Rattle.cases.specs.Question.{Row, _⇒_, read-u64, write-u64, zigzag-encode, zigzag-decode, cell-head, cell-value, write-cell}
 
 abbrev minus : ℕ → ℤ
 minus n = negℤ (pos n)
 
 abbrev nine : ℕ → List ℕ → List ℕ
 nine b then = b ∷ b ∷ b ∷ b ∷ b ∷ b ∷ b ∷ b ∷ b ∷ then
+
+-- rowid 1, Integer 5, null, Text A, Bool true
+abbrev entry : List ℕ
+entry = 0x0B ∷ 0x01 ∷ 0x02 ∷ 0x04 ∷ 0x02 ∷ 0x00 ∷ 0x0A ∷ 0x02 ∷ 0x01 ∷ 0x41 ∷ 0x03 ∷ 0x01 ∷ []
 
 unfoldable pub rows : List Row
 rows =
@@ -38,4 +42,12 @@ rows =
     ∷ (zigzag-decode 127 ⇒ gives ((2 ^ 64 - 64) ∷ []))
     ∷ (zigzag-decode 128 ⇒ gives (64 ∷ []))
     ∷ (zigzag-decode (2 ^ 64 - 1) ⇒ gives (2 ^ 63 ∷ []))
+    -- the entry: its head; its values, the Text's one byte at place 9; and written
+    ∷ (cell-head entry ⇒ gives (1 ∷ 4 ∷ 12 ∷ []))
+    ∷ (cell-value entry 0 ⇒ gives (0 ∷ 5 ∷ 0 ∷ []))
+    ∷ (cell-value entry 1 ⇒ gives (255 ∷ 0 ∷ 0 ∷ []))
+    ∷ (cell-value entry 2 ⇒ gives (2 ∷ 1 ∷ 9 ∷ []))
+    ∷ (cell-value entry 3 ⇒ gives (3 ∷ 1 ∷ 0 ∷ []))
+    ∷ (cell-value entry 4 ⇒ refuses 12)
+    ∷ (write-cell (pos 1) (0 ∷ 255 ∷ 2 ∷ 3 ∷ []) (5 ∷ 0 ∷ 1 ∷ 1 ∷ []) (0x41 ∷ []) ⇒ gives entry)
     ∷ []

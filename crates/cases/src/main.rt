@@ -1,6 +1,7 @@
 // Runs numbers of document 01 through the code, on either side of each limit, and writes a line for each: the file stdout beside src/
 // has the lines that are right. What the document marks with a star is proved besides, of the definitions: specs/Rows.antt.
 // Each layer has a module of its own, and its lines here.
+mod cells;
 mod numbers;
 mod print;
 mod texts;
@@ -10,6 +11,7 @@ fn main() {
     signed();
     limits();
     text();
+    entry();
 }
 
 fn unsigned() {
@@ -61,4 +63,24 @@ fn text() {
     texts::check(b"\xED\xA0\x80");
     texts::check(b"\xF4\x90\x80\x80");
     texts::check(b"\xF4\x8F\xBF\xBF");
+}
+
+// Rowid 1, Integer 5, null, Text A, Bool true; read, asked for each column, and written. And its neighbours: the last byte missing, a spare
+// bit, an unknown tag, a null inside a value, a Bool of 2.
+fn entry() {
+    let row = *b"\x0B\x01\x02\x04\x02\x00\x0A\x02\x01\x41\x03\x01";
+    cells::read(&row);
+    cells::column(&row, 0);
+    cells::column(&row, 1);
+    cells::column(&row, 2);
+    cells::column(&row, 3);
+    cells::column(&row, 4);
+    cells::read(b"\x0B\x01\x02\x04\x02\x00\x0A\x02\x01\x41\x03");
+    cells::read(b"\x0B\x01\x02\x04\xF2\x00\x0A\x02\x01\x41\x03\x01");
+    cells::read(b"\x0B\x01\x02\x04\x02\x05\x0A\x02\x01\x41\x03\x01");
+    let words =
+        *b"\x05\x00\x00\x00\x00\x00\x00\x00\x00\x00\x00\x00\x00\x00\x00\x00\x01\x00\x00\x00\x00\x00\x00\x00\x01\x00\x00\x00\x00\x00\x00\x00";
+    cells::write(1, b"\x00\xFF\x02\x03", &words, b"A");
+    cells::write(1, b"\x05", b"\x00\x00\x00\x00\x00\x00\x00\x00", b"");
+    cells::write(1, b"\x03", b"\x02\x00\x00\x00\x00\x00\x00\x00", b"");
 }

@@ -2,14 +2,20 @@
 -- Assumes nothing.
 use mathlib.Core.Path.{_≡_, refl, sym, _∙_, ap}
 use mathlib.Core.List.{List}
-use Prim.Native.Nat.{ℕ}
-use lib.ListN.{drop}
+use Prim.Native.Nat.{ℕ, _-_, _^_, _≤_, _<_}
+use native.Mathlib.Nat.{le-of-eq}
+use lib.IntN.{ℤ}
+use lib.ListN.{length, take, drop, length-drop}
+use lib.Seq.{take-all}
 use borrow.Author.Needs.{needs}
 use borrow.Author.Tests.{eq-eqb, ne-eqb}
 use Rattle.paper.specs.Answer.{Answer, gives, refuses, andThen, pick}
 use Rattle.cell.specs.Entry.{peekKind}
 use Rattle.cell.specs.Local.{headFrom}
 use Rattle.cell.specs.Paper.{paperKind, paperHead}
+use Rattle.cell.specs.Words.{Frame}
+use Rattle.cell.proofs.Heads.{frame-number, frame-starts, frame-ends}
+use Rattle.varint.specs.Zigzag.{unzigzag}
 use Rattle.cell.specs.declared.Head.{Head}
 use Rattle.cell.specs.declared.Decoded.{Decoded}
 use Rattle.cell.specs.declared.Decoded.the-variants as C
@@ -18,8 +24,9 @@ use Rattle.cell.specs.declared.PeekedKind.the-variants as K
 use Rattle.overflow.specs.Reference.{referenceFrom}
 use Rattle.overflow.specs.Paged.{Paged, localPaged, referencePaged, pagedFrom}
 use Rattle.overflow.specs.Paper.{paperRef, paperPaged}
+use Rattle.overflow.specs.Words.{Refers}
+use Rattle.overflow.proofs.References.{reference-unframed, reference-refused, reference-given, reference-past, refers-number, refers-fits}
 use Rattle.overflow.specs.declared.OverflowRef.{OverflowRef}
-use Rattle.overflow.specs.declared.DecodedRef.{DecodedRef}
 use Rattle.overflow.specs.declared.DecodedRef.the-variants as D
 use Rattle.overflow.specs.declared.PagedEntry.the-variants as P
 
@@ -32,14 +39,34 @@ module _ (s : List ℕ) {r : Decoded} (e : paperHead r ≡ headFrom s) where
   unfolding paperHead paperPaged localPaged andThen
   paged-local-refused d = rw (← e, d)
 
-module _ (s : List ℕ) {r : DecodedRef} (e : paperRef r ≡ referenceFrom s) where
-  pub paged-reference : {h : OverflowRef} {n : ℕ} → r ≡ D.Reference h n → paperPaged (P.Overflow h n) ≡ referencePaged s
+module _ (s : List ℕ) where
+  as-refused : (k : ℕ) → paperRef (D.Refused k) ≡ referenceFrom s → paperPaged (P.Refused k) ≡ referencePaged s
   unfolding paperRef paperPaged referencePaged andThen
-  paged-reference d = rw (← e, d)
+  as-refused k e = rw (← e)
 
-  pub paged-reference-refused : {k : ℕ} → r ≡ D.Refused k → paperPaged (P.Refused k) ≡ referencePaged s
+  as-overflow : (h : OverflowRef) (n : ℕ) → paperRef (D.Reference h n) ≡ referenceFrom s → paperPaged (P.Overflow h n) ≡ referencePaged s
   unfolding paperRef paperPaged referencePaged andThen
-  paged-reference-refused d = rw (← e, d)
+  as-overflow h n e = rw (← e)
+
+  module _ {at end : ℕ} (f : Frame s at end) where
+    pub paged-unframed : {k : ℕ} → 2 ^ 63 ≤ end → k ≡ 2 ^ 64 - 1 - end → paperPaged (P.Refused k) ≡ referencePaged s
+    paged-unframed {k} l e = as-refused k (reference-unframed s f l e)
+
+    module _ (l : end < 2 ^ 63) {rowid total page : ℕ} (r : Refers (take (end - at) (drop at s)) rowid total page) where
+      pub paged-refused : {k : ℕ} → 2 ^ 63 ≤ page → k ≡ 2 ^ 64 - 1 - page → paperPaged (P.Refused k) ≡ referencePaged s
+      paged-refused {k} h d = as-refused k (reference-refused s f l r h d)
+
+      pub paged-given : {z : ℤ} → page < 2 ^ 63 → z ≡ unzigzag rowid
+          → paperPaged (P.Overflow (record { rowid = z; «total_body_len» = total; «first_overflow_page» = page }) end) ≡ referencePaged s
+      paged-given {z} h d =
+          as-overflow (record { rowid = z; «total_body_len» = total; «first_overflow_page» = page }) end (reference-given s f l r h d)
+
+module _ (s : List ℕ) (pos : ℕ) where
+  pub paged-past : length s ≤ pos → paperPaged (P.Refused 1) ≡ referencePaged (drop pos s)
+  paged-past l = as-refused (drop pos s) 1 (reference-past s pos l)
+
+  pub paged-at : {a : Answer Paged} → a ≡ referencePaged (take (length s - pos) (drop pos s)) → a ≡ referencePaged (drop pos s)
+  paged-at e = rw (take-all (length s - pos) (drop pos s) (le-of-eq (length-drop pos s))) at e
 
 module _ (s : List ℕ) {r : PeekedKind} (e : paperKind r ≡ peekKind s) where
   pub paged-no-kind : {k : ℕ} → r ≡ K.Refused k → paperPaged (P.Refused k) ≡ pagedFrom s
@@ -63,8 +90,16 @@ pub ruleset paged = (
   needs,
   paged-local,
   paged-local-refused,
-  paged-reference,
-  paged-reference-refused,
+  frame-number,
+  frame-starts,
+  frame-ends,
+  refers-number,
+  refers-fits,
+  paged-unframed,
+  paged-refused,
+  paged-given,
+  paged-past,
+  paged-at,
   paged-no-kind,
   paged-by-local,
   paged-by-reference,

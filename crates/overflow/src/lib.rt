@@ -125,14 +125,38 @@ fn as_local(buf: &[u8], pos: usize) -> PagedEntry
     }
 }
 
+// As `decode_from`, and not through it: so each call that reads a reference has the frame laid out in it, and only the body's words go
+// through memory.
+fn reference_from(s: &[u8]) -> PagedEntry
+    ensures { λ r. ⌜ paperPaged r ≡ referencePaged (now (s .entry)) ⌝ }
+{
+    let framed = cell::inner::frame(s);
+    let at = framed.at;
+    let end = framed.end;
+    if NO_PLACE <= end {
+        return PagedEntry::Refused(number(end));
+    }
+    let words = reference_body(&s[at..end]);
+    if NO_PLACE <= words.page {
+        return PagedEntry::Refused(number(words.page));
+    }
+    PagedEntry::Overflow(
+        OverflowRef {
+            rowid: varint::zigzag_decode(words.rowid),
+            total_body_len: words.total,
+            first_overflow_page: words.page as u32,
+        },
+        end,
+    )
+}
+
 fn as_reference(buf: &[u8], pos: usize) -> PagedEntry
     ensures { λ r. ⌜ paperPaged r ≡ referencePaged (drop pos (now (buf .entry))) ⌝ }
 {
-    let reference = decode(buf, pos);
-    match reference {
-        DecodedRef::Reference(r, bytes) => PagedEntry::Overflow(r, bytes),
-        DecodedRef::Refused(k) => PagedEntry::Refused(k),
+    if buf.len() <= pos {
+        return PagedEntry::Refused(1);
     }
+    reference_from(&buf[pos..])
 }
 
 // Reads the entry at `pos` by its kind.

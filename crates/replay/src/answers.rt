@@ -23,6 +23,10 @@ pub fn two_agree(text: &[u8], line: usize, k: usize, code: u32, answer: &[u64; 2
     answer_agrees(text, line, k, code, answer)
 }
 
+pub fn three_agree(text: &[u8], line: usize, k: usize, code: u32, answer: &[u64; 3]) -> bool {
+    answer_agrees(text, line, k, code, answer)
+}
+
 // The result `code` and the answer array, against the fields from `k` on: the number and, where it is 0, the values.
 fn answer_agrees(text: &[u8], line: usize, k: usize, code: u32, answer: &[u64]) -> bool {
     let at = field(text, line, k);

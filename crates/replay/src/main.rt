@@ -3,6 +3,7 @@
 //
 // A file of data/ holds one layer. A new layer adds its module of calls, an arm in `calls`, `replayed` and `print_name`, and a line in `main`.
 mod answers;
+mod cell_calls;
 mod fields;
 mod text_calls;
 mod varint_calls;
@@ -14,11 +15,14 @@ const VARINT: u8 = 0;
 
 const UTF8: u8 = 1;
 
+const CELL: u8 = 2;
+
 // How many calls a layer has. They are numbered from 1 on.
 fn calls(layer: u8) -> usize {
     match layer {
         VARINT => varint_calls::CALLS,
         UTF8 => text_calls::CALLS,
+        CELL => cell_calls::CALLS,
         _ => 0,
     }
 }
@@ -28,6 +32,7 @@ fn replayed(layer: u8, call: usize, text: &[u8], line: usize) -> bool {
     match layer {
         VARINT => varint_calls::replayed(call, text, line),
         UTF8 => text_calls::replayed(call, text, line),
+        CELL => cell_calls::replayed(call, text, line),
         _ => false,
     }
 }
@@ -36,6 +41,7 @@ fn print_name(layer: u8, call: usize) {
     match layer {
         VARINT => varint_calls::print_name(call),
         UTF8 => text_calls::print_name(call),
+        CELL => cell_calls::print_name(call),
         _ => {}
     }
 }
@@ -141,6 +147,7 @@ fn main() {
     let mut total = [0u64; 2];
     replay(VARINT, b"varint.txt", &mut total);
     replay(UTF8, b"utf8.txt", &mut total);
+    replay(CELL, b"cell.txt", &mut total);
     io::write_all(STDOUT_FILENO, b"total ");
     print_counts(total[0], total[1]);
 }

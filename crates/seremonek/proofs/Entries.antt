@@ -2,13 +2,15 @@
 -- Assumes nothing.
 use mathlib.Core.Path.{_≡_, sym, _∙_, ap}
 use mathlib.Core.List.{List, [], _∷_}
+use mathlib.Core.Bool.{Bool, true, false}
 use Prim.Native.Nat.{ℕ}
+use lib.Ieee.{Float}
 use lib.IntN.{ℤ}
 use mir.Syntax.{w64}
 use mir.Val.{SFits, ofZ, toZ}
 use mir.ValLaws.{toZ-ofZ}
 use borrow.Author.Needs.{needs}
-use Rattle.paper.specs.Answer.{Answer, gives, refuses}
+use Rattle.paper.specs.Answer.{Answer, gives, refuses, pick, put, sizeOf}
 use Rattle.cell.specs.Paper.{paperKind, paperRowid, paperSize, paperHead}
 use Rattle.cell.specs.declared.Head.{Head}
 use Rattle.cell.specs.declared.Decoded.{Decoded}
@@ -19,7 +21,18 @@ use Rattle.cell.specs.declared.PeekedKind.{PeekedKind}
 use Rattle.cell.specs.declared.PeekedKind.the-variants as K
 use Rattle.cell.specs.declared.PeekedRowid.{PeekedRowid}
 use Rattle.cell.specs.declared.PeekedRowid.the-variants as R
-use Rattle.seremonek.specs.Interface.{codeOf, answered, one, signedOne, signedThree}
+use Rattle.cell.specs.Block.{Block}
+use Rattle.cell.specs.PaperValue.{paperValue, paperAsked}
+use Rattle.cell.specs.Written.{encoded, writeCell}
+use Rattle.varint.specs.Paper.{paperWrote}
+use Rattle.varint.specs.declared.Wrote.{Wrote}
+use Rattle.varint.specs.declared.Wrote.the-variants as W
+use Rattle.cell.specs.declared.value.Asked.{Asked}
+use Rattle.cell.specs.declared.value.Asked.the-variants as Ask
+use Rattle.cell.specs.declared.value.Value.{Value}
+use Rattle.cell.specs.declared.value.Value.the-variants as Val
+use Rattle.seremonek.specs.Interface.{codeOf, answered, one, signedOne, signedThree, valueThree}
+use Rattle.seremonek.proofs.Numbers.{by-bits, wrote-code, wrote-refused, wrote-answer, wrote-kept}
 use Rattle.seremonek.proofs.Words.{given-code, refused-code, given-answer, refused-answer}
 
 module _ (q : Answer ℕ) {r : PeekedKind} (e : paperKind r ≡ q) where
@@ -98,6 +111,94 @@ module _ (q : Answer (ℤ × ℕ × ℕ)) {r : Decoded} (e : paperHead r ≡ q) 
     unfolding paperHead
     head-kept h = refused-answer q signedThree old (sym (ap paperHead h) ∙ e)
 
+module _ (q : Answer Block) {r : Asked} (e : paperAsked r ≡ q) where
+  pub value-code : {v : Value} → r ≡ Ask.Value v → 0 ≡ codeOf q
+  unfolding paperAsked
+  value-code h = given-code q (sym (ap paperAsked h) ∙ e)
+
+  pub value-refused : {k : ℕ} → r ≡ Ask.Refused k → k ≡ codeOf q
+  unfolding paperAsked
+  value-refused h = refused-code q (sym (ap paperAsked h) ∙ e)
+
+  module _ (old : List ℕ) where
+    pub value-answer : {v : Value} {w : List ℕ} → r ≡ Ask.Value v → w ≡ valueThree (paperValue v) → w ≡ answered valueThree q old
+    unfolding paperAsked
+    value-answer h g = g ∙ given-answer q valueThree old (sym (ap paperAsked h) ∙ e)
+
+    pub value-kept : {k : ℕ} → r ≡ Ask.Refused k → old ≡ answered valueThree q old
+    unfolding paperAsked
+    value-kept h = refused-answer q valueThree old (sym (ap paperAsked h) ∙ e)
+
+-- ---- a value's words
+module _ (v : Value) where
+  pub null-words : v ≡ Val.Null → 255 ∷ 0 ∷ 0 ∷ [] ≡ valueThree (paperValue v)
+  unfolding valueThree paperValue
+  null-words h = rw h
+
+  pub integer-words : {z : ℤ} {p : ℕ} → v ≡ Val.Integer z → p ≡ ofZ w64 z → 0 ∷ p ∷ 0 ∷ [] ≡ valueThree (paperValue v)
+  unfolding valueThree paperValue
+  integer-words h g = rw (h, g)
+
+  pub real-words : {f : Float} {bits : ℕ} → v ≡ Val.Real f bits → 1 ∷ bits ∷ 0 ∷ [] ≡ valueThree (paperValue v)
+  unfolding valueThree paperValue
+  real-words h = rw h
+
+  pub text-words : {at len : ℕ} → v ≡ Val.Text at len → 2 ∷ len ∷ at ∷ [] ≡ valueThree (paperValue v)
+  unfolding valueThree paperValue
+  text-words h = rw h
+
+  pub true-words : {b : Bool} → v ≡ Val.Bool b → b ≡ true → 3 ∷ 1 ∷ 0 ∷ [] ≡ valueThree (paperValue v)
+  unfolding valueThree paperValue pick
+  true-words h g = rw (h, g)
+
+  pub false-words : {b : Bool} → v ≡ Val.Bool b → b ≡ false → 3 ∷ 0 ∷ 0 ∷ [] ≡ valueThree (paperValue v)
+  unfolding valueThree paperValue pick
+  false-words h g = rw (h, g)
+
+  pub vector-words : {at dim : ℕ} → v ≡ Val.Vector at dim → 4 ∷ dim ∷ at ∷ [] ≡ valueThree (paperValue v)
+  unfolding valueThree paperValue
+  vector-words h = rw h
+
+-- ---- writing: the rowid comes to the callee as the number of its bits
+module _ (z : ℤ) (kinds words rest : List ℕ) (f : SFits w64 z) where
+  written : (room : ℕ) {a : Answer ℕ} → a ≡ sizeOf (writeCell (toZ w64 (ofZ w64 z)) kinds words rest room) → a ≡ sizeOf (writeCell z kinds words rest room)
+  written room e = by-bits (λ (y : ℤ). sizeOf (writeCell y kinds words rest room)) z f e
+
+  measured : {a : Answer ℕ} → a ≡ sizeOf (encoded (toZ w64 (ofZ w64 z)) kinds words rest) → a ≡ sizeOf (encoded z kinds words rest)
+  measured e = by-bits (λ (y : ℤ). sizeOf (encoded y kinds words rest)) z f e
+
+  pub encode-out : (out : List ℕ) (room : ℕ) {new : List ℕ}
+      → new ≡ put out (writeCell (toZ w64 (ofZ w64 z)) kinds words rest room) → new ≡ put out (writeCell z kinds words rest room)
+  encode-out out room e = by-bits (λ (y : ℤ). put out (writeCell y kinds words rest room)) z f e
+
+  module _ (room : ℕ) {r : Wrote} (e : paperWrote r ≡ sizeOf (writeCell (toZ w64 (ofZ w64 z)) kinds words rest room)) where
+    pub encode-code : {n : ℕ} → r ≡ W.Bytes n → 0 ≡ codeOf (writeCell z kinds words rest room)
+    encode-code h = wrote-code _ (written room e) h
+
+    pub encode-refused : {k : ℕ} → r ≡ W.Refused k → k ≡ codeOf (writeCell z kinds words rest room)
+    encode-refused h = wrote-refused _ (written room e) h
+
+    module _ (old : List ℕ) where
+      pub encode-answer : {n : ℕ} → r ≡ W.Bytes n → n ∷ [] ≡ answered one (sizeOf (writeCell z kinds words rest room)) old
+      encode-answer h = wrote-answer _ (written room e) old h
+
+      pub encode-kept : {k : ℕ} → r ≡ W.Refused k → old ≡ answered one (sizeOf (writeCell z kinds words rest room)) old
+      encode-kept h = wrote-kept _ (written room e) old h
+
+  module _ {r : Wrote} (e : paperWrote r ≡ sizeOf (encoded (toZ w64 (ofZ w64 z)) kinds words rest)) where
+    pub length-code : {n : ℕ} → r ≡ W.Bytes n → 0 ≡ codeOf (encoded z kinds words rest)
+    length-code h = wrote-code _ (measured e) h
+
+    pub length-refused : {k : ℕ} → r ≡ W.Refused k → k ≡ codeOf (encoded z kinds words rest)
+    length-refused h = wrote-refused _ (measured e) h
+
+    module _ (old : List ℕ) where
+      pub length-answer : {n : ℕ} → r ≡ W.Bytes n → n ∷ [] ≡ answered one (sizeOf (encoded z kinds words rest)) old
+      length-answer h = wrote-answer _ (measured e) old h
+
+      pub length-kept : {k : ℕ} → r ≡ W.Refused k → old ≡ answered one (sizeOf (encoded z kinds words rest)) old
+      length-kept h = wrote-kept _ (measured e) old h
+
 pub ruleset entries = (
   needs,
   kind-code,
@@ -116,4 +217,24 @@ pub ruleset entries = (
   head-refused,
   head-answer,
   head-kept,
+  value-code,
+  value-refused,
+  value-answer,
+  value-kept,
+  null-words,
+  integer-words,
+  real-words,
+  text-words,
+  true-words,
+  false-words,
+  vector-words,
+  encode-code,
+  encode-refused,
+  encode-answer,
+  encode-kept,
+  encode-out,
+  length-code,
+  length-refused,
+  length-answer,
+  length-kept,
 )

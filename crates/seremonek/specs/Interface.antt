@@ -4,7 +4,8 @@ use mathlib.Core.List.{List, [], _∷_}
 use lib.IntN.{ℤ}
 use mir.Syntax.{w64}
 use mir.Val.{ofZ}
-use Rattle.paper.specs.Answer.{Answer, gives, refuses}
+use Rattle.paper.specs.Answer.{Answer, gives, refuses, pick}
+use Rattle.cell.specs.Block.{Block, null, integer, real, bool, text, vector}
 
 -- the number returned: 0 where the call accepts
 unfoldable pub codeOf : {A : Type 0} → Answer A → ℕ
@@ -33,3 +34,12 @@ signedTwo (z, n) = ofZ w64 z ∷ n ∷ []
 
 unfoldable pub signedThree : ℤ × ℕ × ℕ → List ℕ
 signedThree (z, m, n) = ofZ w64 z ∷ m ∷ n ∷ []
+
+-- a column's value: its kind, which is the tag, or 255 for a null; its word; and the place of a text's or a vector's bytes
+unfoldable pub valueThree : Block → List ℕ
+valueThree null = 255 ∷ 0 ∷ 0 ∷ []
+valueThree (integer v) = 0 ∷ ofZ w64 v ∷ 0 ∷ []
+valueThree (real f bits) = 1 ∷ bits ∷ 0 ∷ []
+valueThree (text at len) = 2 ∷ len ∷ at ∷ []
+valueThree (bool b) = 3 ∷ pick b 1 0 ∷ 0 ∷ []
+valueThree (vector at dim) = 4 ∷ dim ∷ at ∷ []

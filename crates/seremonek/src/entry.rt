@@ -1,13 +1,19 @@
-// Entries: the peeks, and the head of a local entry.
+// Entries: the peeks; a local entry's head and values; writing one.
 ghost use mathlib.Core.Path.{_≡_};
-ghost use lib.ListN.{drop};
+ghost use lib.ListN.{drop, length};
+ghost use Rattle.paper.specs.Answer.{put, sizeOf};
 ghost use Rattle.cell.specs.Entry.{peekKind, peekRowid, sizeAt};
-ghost use Rattle.cell.specs.Local.{headFrom};
-ghost use Rattle.seremonek.specs.Interface.{codeOf, answered, one, signedOne, signedThree};
+ghost use Rattle.cell.specs.Local.{headFrom, valueAt};
+ghost use Rattle.cell.specs.PaperValue.{paperValue};
+ghost use Rattle.cell.specs.Written.{encoded, writeCell};
+ghost use Rattle.seremonek.specs.Interface.{codeOf, answered, one, signedOne, signedThree, valueThree};
 use cell::Decoded;
 use cell::Measured;
 use cell::PeekedKind;
 use cell::PeekedRowid;
+use cell::value::Asked;
+use cell::value::Value;
+use varint::Wrote;
 
 // kind
 #[no_mangle]
@@ -74,5 +80,80 @@ pub extern "C" fn smk_cell_decode(buf: &[u8], pos: usize, answer: &mut [u64; 3])
             0
         }
         Decoded::Refused(number) => number as u32,
+    }
+}
+
+// kind, word, place
+#[no_mangle]
+pub extern "C" fn smk_cell_value(buf: &[u8], pos: usize, column: u64, answer: &mut [u64; 3]) -> u32
+    ensures { λ r. ⌜ r ≡ codeOf (valueAt (now (buf .entry)) pos column) ⌝ }
+    ensures { λ _. ⌜ now (answer .exit) ≡ answered valueThree (valueAt (now (buf .entry)) pos column) (now (answer .entry)) ⌝ }
+{
+    let asked = cell::value::column_value(buf, pos, column as usize);
+    match asked {
+        Asked::Value(value) => {
+            *answer = words(value);
+            0
+        }
+        Asked::Refused(number) => number as u32,
+    }
+}
+
+fn words(value: Value) -> [u64; 3]
+    ensures { λ r. ⌜ r ≡ valueThree (paperValue value) ⌝ }
+{
+    match value {
+        Value::Null => [255, 0, 0],
+        Value::Integer(v) => [0, varint::pattern(v), 0],
+        Value::Real(_, bits) => [1, bits, 0],
+        Value::Text(at, len) => [2, len as u64, at as u64],
+        Value::Bool(b) => { if b { [3, 1, 0] } else { [3, 0, 0] } }
+        Value::Vector(at, dim) => [4, dim as u64, at as u64],
+    }
+}
+
+// bytes
+#[no_mangle]
+pub extern "C" fn smk_cell_encode(
+    rowid: i64,
+    kinds: &[u8],
+    words: &[u8],
+    data: &[u8],
+    out: &mut [u8],
+    answer: &mut [u64; 1],
+) -> u32
+    ensures { λ r. ⌜ r ≡ codeOf (writeCell rowid (now (kinds .entry)) (now (words .entry)) (now («data» .entry)) (length (now (out .entry)))) ⌝ }
+    ensures { λ _. ⌜ now (out .exit) ≡ put (now (out .entry)) (writeCell rowid (now (kinds .entry)) (now (words .entry)) (now («data» .entry)) (length (now (out .entry)))) ⌝ }
+    ensures { λ _. ⌜ now (answer .exit) ≡ answered one (sizeOf (writeCell rowid (now (kinds .entry)) (now (words .entry)) (now («data» .entry)) (length (now (out .entry))))) (now (answer .entry)) ⌝ }
+{
+    let wrote = cell::encode::encode(rowid, kinds, words, data, out);
+    match wrote {
+        Wrote::Bytes(bytes) => {
+            *answer = [bytes as u64];
+            0
+        }
+        Wrote::Refused(number) => number as u32,
+    }
+}
+
+// bytes
+#[no_mangle]
+pub extern "C" fn smk_cell_encoded_len(
+    rowid: i64,
+    kinds: &[u8],
+    words: &[u8],
+    data: &[u8],
+    answer: &mut [u64; 1],
+) -> u32
+    ensures { λ r. ⌜ r ≡ codeOf (encoded rowid (now (kinds .entry)) (now (words .entry)) (now («data» .entry))) ⌝ }
+    ensures { λ _. ⌜ now (answer .exit) ≡ answered one (sizeOf (encoded rowid (now (kinds .entry)) (now (words .entry)) (now («data» .entry)))) (now (answer .entry)) ⌝ }
+{
+    let measured = cell::encode::encoded_len(rowid, kinds, words, data);
+    match measured {
+        Wrote::Bytes(bytes) => {
+            *answer = [bytes as u64];
+            0
+        }
+        Wrote::Refused(number) => number as u32,
     }
 }

@@ -15,6 +15,10 @@ fn main() {
 }
 
 #[cfg(not(oracle_missing))]
+mod cell;
+#[cfg(not(oracle_missing))]
+mod references;
+#[cfg(not(oracle_missing))]
 mod timing;
 #[cfg(not(oracle_missing))]
 mod utf8;
@@ -39,4 +43,6 @@ fn main() {
     let mut table = timing::Table::new(rounds, names);
     varint::cases(&mut table);
     utf8::cases(&mut table);
+    cell::cases(&mut table);
+    references::cases(&mut table);
 }

@@ -11,6 +11,33 @@ pub fn limits() -> Vec<u64> {
     numbers
 }
 
+/// `value` as a varint in exactly `length` bytes, be they more than it needs. Written here anew, so that it leans on neither side.
+pub fn leb_in(value: u64, length: usize) -> Vec<u8> {
+    let group = |i: usize| (value.checked_shr(7 * i as u32).unwrap_or(0) & 0x7F) as u8;
+    (0..length).map(|i| group(i) | if i + 1 < length { 0x80 } else { 0 }).collect()
+}
+
+/// In the fewest bytes.
+pub fn leb(value: u64) -> Vec<u8> {
+    leb_longer(value, 0)
+}
+
+/// In so many bytes more than it needs; in ten at most.
+pub fn leb_longer(value: u64, longer: usize) -> Vec<u8> {
+    let fewest = (1..=10).find(|k| *k == 10 || value >> (7 * k) == 0).unwrap();
+    leb_in(value, (fewest + longer).min(10))
+}
+
+/// The unsigned number that a signed one is written as.
+pub fn zigzag(value: i64) -> u64 {
+    if value < 0 { !(value as u64) * 2 + 1 } else { value as u64 * 2 }
+}
+
+/// The pattern of the signed number that is written as `value` is; so the limits of the one are those of the other.
+pub fn signed_like(value: u64) -> u64 {
+    (value >> 1) ^ (value & 1).wrapping_neg()
+}
+
 /// All buffers of up to 3 bytes, each read at every position from 0 to one past its end, and at some that are far out.
 ///
 /// Of the 3-byte buffers a run that is not `whole` reads all at position 0, and at the later positions those with some of the first bytes.

@@ -17,6 +17,8 @@ fn main() {
 }
 
 #[cfg(not(oracle_missing))]
+mod cell;
+#[cfg(not(oracle_missing))]
 mod frame;
 #[cfg(not(oracle_missing))]
 mod inputs;
@@ -24,6 +26,8 @@ mod inputs;
 mod random;
 #[cfg(not(oracle_missing))]
 mod record;
+#[cfg(not(oracle_missing))]
+mod references;
 #[cfg(not(oracle_missing))]
 mod run;
 #[cfg(not(oracle_missing))]
@@ -33,7 +37,7 @@ mod varint;
 
 /// Lowest first.
 #[cfg(not(oracle_missing))]
-const LAYERS: &[frame::Layer] = &[varint::LAYER, utf8::LAYER];
+const LAYERS: &[frame::Layer] = &[varint::LAYER, utf8::LAYER, cell::LAYER, references::LAYER];
 
 #[cfg(not(oracle_missing))]
 fn main() {

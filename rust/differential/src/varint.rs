@@ -1,7 +1,7 @@
 //! varint.rs: LEB128 and ZigZag.
 
 use crate::frame::{Call, Comparison, Expected, Input, Layer, Lent, Part, expect, expect_written};
-use crate::inputs;
+use crate::inputs::{self, leb_in, signed_like};
 use crate::random::Random;
 use Part::{Bytes, Number, Output};
 use seremonek::ffi;
@@ -97,21 +97,9 @@ fn writing(value: u64, output: &[u8]) -> Input<'_> {
     Input { numbers: [value, 0, 0, 0], outputs: [output, &[]], ..Input::default() }
 }
 
-/// `value` in exactly `length` bytes, be they more than it needs. Written here anew, so that it leans on neither side.
-fn leb(value: u64, length: usize) -> Vec<u8> {
-    let group = |i: usize| (value.checked_shr(7 * i as u32).unwrap_or(0) & 0x7F) as u8;
-    (0..length).map(|i| group(i) | if i + 1 < length { 0x80 } else { 0 }).collect()
-}
-
-/// The pattern of the signed number that is encoded as `value` is; so the limits of the one are those of the other.
-fn signed_like(value: u64) -> u64 {
-    (value >> 1) ^ (value & 1).wrapping_neg()
-}
-
 /// `value` in every length that holds it, from the shortest to ten bytes.
-fn forms(value: u64) -> impl Iterator<Item = Vec<u8>> {
-    let shortest = (1..=10).find(|k| *k == 10 || value >> (7 * k) == 0).unwrap();
-    (shortest..=10).map(move |length| leb(value, length))
+pub fn forms(value: u64) -> impl Iterator<Item = Vec<u8>> {
+    (inputs::leb(value).len()..=10).map(move |length| leb_in(value, length))
 }
 
 fn compare(run: &mut Comparison) {
@@ -226,7 +214,7 @@ fn sample(put: &mut dyn FnMut(&'static str, &Input)) {
             }
         }
         for tenth in 0..=255 {
-            let nine = leb(0x0123_4567_89AB_CDEF ^ (u64::from(tenth) << 20), 10);
+            let nine = leb_in(0x0123_4567_89AB_CDEF ^ (u64::from(tenth) << 20), 10);
             put(name, &reading(&[&nine[..9], &[tenth]].concat(), 0));
         }
         put(name, &reading(&[0xFF; 11], 0));

@@ -9,7 +9,13 @@
 #[cfg(not(oracle_missing))]
 mod asking;
 #[cfg(not(oracle_missing))]
+pub mod cell;
+#[cfg(not(oracle_missing))]
 pub mod error;
+#[cfg(not(oracle_missing))]
+pub mod interior_page;
+#[cfg(not(oracle_missing))]
+pub mod overflow;
 #[cfg(not(oracle_missing))]
 pub mod texts;
 #[cfg(not(oracle_missing))]
@@ -26,6 +32,11 @@ pub mod sql {
         include!(concat!(env!("OUT_DIR"), "/pager.rs"));
         #[allow(clippy::module_inception)]
         pub mod pager;
+
+        /// The originals' own reading of one value block, which they keep to this module.
+        pub fn decode_value(buf: &[u8], pos: usize) -> crate::error::Result<(crate::sql::db::table::Value, usize)> {
+            cell::decode_value(buf, pos)
+        }
     }
 }
 

@@ -16,4 +16,42 @@ unsafe extern "C" {
 
     // utf8
     pub fn smk_utf8_check(bytes: *const u8, bytes_len: usize) -> u32;
+
+    // cell
+    pub fn smk_peek_kind(buf: *const u8, buf_len: usize, pos: usize, answer: *mut [u64; 1]) -> u32;
+    pub fn smk_peek_rowid(buf: *const u8, buf_len: usize, pos: usize, answer: *mut [u64; 1]) -> u32;
+    pub fn smk_encoded_size_at(buf: *const u8, buf_len: usize, pos: usize, answer: *mut [u64; 1]) -> u32;
+    pub fn smk_cell_decode(buf: *const u8, buf_len: usize, pos: usize, answer: *mut [u64; 3]) -> u32;
+    pub fn smk_cell_value(buf: *const u8, buf_len: usize, pos: usize, column: u64, answer: *mut [u64; 3]) -> u32;
+    pub fn smk_cell_encode(
+        rowid: i64,
+        kinds: *const u8,
+        kinds_len: usize,
+        words: *const u8,
+        words_len: usize,
+        data: *const u8,
+        data_len: usize,
+        out: *mut u8,
+        out_len: usize,
+        answer: *mut [u64; 1],
+    ) -> u32;
+    pub fn smk_cell_encoded_len(
+        rowid: i64,
+        kinds: *const u8,
+        kinds_len: usize,
+        words: *const u8,
+        words_len: usize,
+        data: *const u8,
+        data_len: usize,
+        answer: *mut [u64; 1],
+    ) -> u32;
+
+    // overflow
+    pub fn smk_overflow_decode(buf: *const u8, buf_len: usize, pos: usize, answer: *mut [u64; 4]) -> u32;
+    pub fn smk_overflow_encode(rowid: i64, total: u64, first: u32, out: *mut u8, out_len: usize, answer: *mut [u64; 1]) -> u32;
+    pub fn smk_entry_decode(buf: *const u8, buf_len: usize, pos: usize, answer: *mut [u64; 5]) -> u32;
+
+    // interior_page
+    pub fn smk_interior_cell_decode(buf: *const u8, buf_len: usize, pos: usize, answer: *mut [u64; 3]) -> u32;
+    pub fn smk_interior_cell_encode(divider: i64, child: u32, out: *mut u8, out_len: usize, answer: *mut [u64; 1]) -> u32;
 }

@@ -7,8 +7,9 @@ pub as-reference-spec : {M : Type 1} → statement M
 as-reference-spec =
     tie.close
     (tie.spec
+    (λ c. search paged)
+    (λ c. search paged)
+    (λ c. search paged)
+    (λ c. search paged)
     (λ c κs. search paged)
-    (λ c. search paged)
-    (λ c. search paged)
-    (λ c. search paged)
     (λ c. search paged))

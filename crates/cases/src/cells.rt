@@ -1,0 +1,83 @@
+// Cells: a line for each call of cell.
+use crate::print;
+use cell::Decoded;
+use cell::value::Asked;
+use cell::value::Value;
+use varint::Wrote;
+
+pub fn read(bytes: &[u8]) {
+    print::text(b"entry");
+    print::bytes(bytes);
+    print::text(b":");
+    match cell::decode(bytes, 0) {
+        Decoded::Head(head) => {
+            print::text(b" rowid ");
+            print::signed(head.rowid);
+            print::text(b", columns ");
+            print::number(head.columns as u64);
+            print::text(b", bytes taken ");
+            print::number(head.bytes as u64);
+        }
+        Decoded::Refused(number) => print::refused(number),
+    }
+    print::end();
+}
+
+pub fn column(bytes: &[u8], column: usize) {
+    print::text(b"column ");
+    print::number(column as u64);
+    print::text(b":");
+    match cell::value::column_value(bytes, 0, column) {
+        Asked::Value(value) => shown(value),
+        Asked::Refused(number) => print::refused(number),
+    }
+    print::end();
+}
+
+fn shown(value: Value) {
+    match value {
+        Value::Null => print::text(b" null"),
+        Value::Integer(v) => {
+            print::text(b" Integer ");
+            print::signed(v);
+        }
+        Value::Real(_, bits) => {
+            print::text(b" Real, bits ");
+            print::number(bits);
+        }
+        Value::Bool(b) => {
+            if b {
+                print::text(b" Bool true");
+            } else {
+                print::text(b" Bool false");
+            }
+        }
+        Value::Text(at, len) => place(b" Text", at, len),
+        Value::Vector(at, dim) => place(b" Vector", at, dim),
+    }
+}
+
+fn place(what: &[u8], at: usize, count: usize) {
+    print::text(what);
+    print::text(b" at ");
+    print::number(at as u64);
+    print::text(b", ");
+    print::number(count as u64);
+}
+
+// Words as they are lent: eight bytes each, the lowest first.
+pub fn write(rowid: i64, kinds: &[u8], words: &[u8], bytes: &[u8]) {
+    let mut out = [0u8; 32];
+    let wrote = cell::encode::encode(rowid, kinds, words, bytes, &mut out);
+    print::text(b"write entry");
+    written(wrote, &out);
+}
+
+fn written(wrote: Wrote, out: &[u8; 32]) {
+    print::text(b":");
+    match wrote {
+        Wrote::Bytes(bytes) => print::front(out, bytes),
+        Wrote::Refused(number) => print::refused(number),
+    }
+    print::end();
+}

@@ -1,0 +1,228 @@
+//! Local entries: read whole, asked for a column, and written.
+
+use crate::timing::Table;
+use oracle_plain::error::Result;
+use oracle_plain::sql::db::table::Value;
+use oracle_plain::sql::pager::cell::Cell;
+use seremonek::ffi;
+use std::hint::black_box;
+
+/// Entries of one pass, or as many as take up to this many bytes.
+const CALLS: usize = 2048;
+const PASS: usize = 1 << 18;
+
+/// Rows of one kind, the same at each run.
+struct Rows {
+    name: &'static str,
+    cells: Vec<Cell>,
+}
+
+fn rows(name: &'static str, bytes: usize, row: impl Fn(u64) -> Vec<Option<Value>>) -> Rows {
+    let count = CALLS.min(PASS / bytes);
+    Rows { name, cells: (0..count as u64).map(|i| Cell::new(7_000_000 + 3 * i as i64, row(mixed(i)))).collect() }
+}
+
+/// A number that looks like any, from one that counts.
+fn mixed(i: u64) -> u64 {
+    let z = (i + 1).wrapping_mul(0x9E37_79B9_7F4A_7C15);
+    let z = (z ^ (z >> 30)).wrapping_mul(0xBF58_476D_1CE4_E5B9);
+    z ^ (z >> 27)
+}
+
+fn text(seed: u64, length: usize) -> Option<Value> {
+    let letters = b"abcdefghijklmnopqrstuvwxyz 0123456789-";
+    let byte = |i: usize| char::from(letters[mixed(seed ^ i as u64) as usize % letters.len()]);
+    Some(Value::Text((0..length).map(byte).collect()))
+}
+
+fn cases_of() -> [Rows; 4] {
+    [
+        rows("scan row", 64, |n| {
+            vec![
+                Some(Value::Integer((n >> 40) as i64)),
+                text(n, 12),
+                Some(Value::Bool(n & 1 == 1)),
+                Some(Value::Real(n as f64 / 1024.0)),
+                Some(Value::Integer(1_700_000_000 + (n >> 44) as i64)),
+            ]
+        }),
+        rows("one column", 16, |n| vec![Some(Value::Integer((n >> 48) as i64))]),
+        // A column is of one kind in all rows; three values of eight are null.
+        rows("twenty columns", 128, |n| {
+            let filled = |i: u64| match ((n >> (3 * i)) & 7, i % 5) {
+                (0..=2, _) => None,
+                (_, 0 | 3) => Some(Value::Integer((mixed(n ^ i) >> 50) as i64)),
+                (_, 1) => text(n ^ i, 8),
+                (_, 2) => Some(Value::Bool(n >> i & 1 == 1)),
+                _ => Some(Value::Real(i as f64)),
+            };
+            (0..20).map(filled).collect()
+        }),
+        rows("text of 1,000", 1024, |n| vec![text(n, 1000)]),
+    ]
+}
+
+pub fn cases(table: &mut Table) {
+    for rows in cases_of() {
+        decode(table, &rows);
+    }
+    for rows in cases_of() {
+        value(table, &rows);
+    }
+    for rows in cases_of() {
+        encode(table, &rows);
+    }
+}
+
+/// One buffer with the entries one behind the other, and where each starts.
+fn buffer(rows: &Rows) -> (Vec<u8>, Vec<usize>) {
+    let mut buf = Vec::new();
+    let mut places = Vec::new();
+    for cell in &rows.cells {
+        places.push(buf.len());
+        buf.extend(cell.encode().unwrap());
+    }
+    (buf, places)
+}
+
+type OurDecode = unsafe extern "C" fn(*const u8, usize, usize, *mut [u64; 3]) -> u32;
+type RustDecode = fn(&[u8], usize) -> Result<(Cell, usize)>;
+
+/// The whole entry is checked, and its head answered; the original answers the values too, in a vector of its own.
+fn decode(table: &mut Table, rows: &Rows) {
+    let (buf, places) = buffer(rows);
+    let ours: OurDecode = black_box(ffi::smk_cell_decode);
+    let rust: RustDecode = black_box(Cell::decode);
+    table.case(
+        &format!("decode {}", rows.name),
+        places.len(),
+        || {
+            let mut sum = 0u64;
+            for pos in &places {
+                let mut answer = [0; 3];
+                // SAFETY: a slice with its length, and an array of the declared length.
+                if unsafe { ours(buf.as_ptr(), buf.len(), *pos, &mut answer) } == 0 {
+                    sum = sum.wrapping_add(answer[0]).wrapping_add(answer[1]).wrapping_add(answer[2]);
+                }
+            }
+            black_box(sum);
+        },
+        || {
+            let mut sum = 0u64;
+            for pos in &places {
+                if let Ok((cell, bytes)) = rust(&buf, *pos) {
+                    sum = sum.wrapping_add(cell.rowid as u64).wrapping_add(cell.values.len() as u64).wrapping_add(bytes as u64);
+                }
+            }
+            black_box(sum);
+        },
+    );
+}
+
+type OurValue = unsafe extern "C" fn(*const u8, usize, usize, u64, *mut [u64; 3]) -> u32;
+
+/// The value in the last column; the original reads the whole cell and takes it.
+fn value(table: &mut Table, rows: &Rows) {
+    let (buf, places) = buffer(rows);
+    let column = rows.cells[0].values.len() - 1;
+    let ours: OurValue = black_box(ffi::smk_cell_value);
+    let rust: RustDecode = black_box(Cell::decode);
+    table.case(
+        &format!("value {}", rows.name),
+        places.len(),
+        || {
+            let mut sum = 0u64;
+            for pos in &places {
+                let mut answer = [0; 3];
+                // SAFETY: as above.
+                if unsafe { ours(buf.as_ptr(), buf.len(), *pos, column as u64, &mut answer) } == 0 {
+                    sum = sum.wrapping_add(answer[0]).wrapping_add(answer[1]);
+                }
+            }
+            black_box(sum);
+        },
+        || {
+            let mut sum = 0u64;
+            for pos in &places {
+                if let Ok((cell, _)) = rust(&buf, *pos) {
+                    sum = sum.wrapping_add(match &cell.values[column] {
+                        Some(Value::Integer(v)) => *v as u64,
+                        Some(Value::Text(text)) => text.len() as u64,
+                        Some(Value::Real(v)) => v.to_bits(),
+                        _ => 0,
+                    });
+                }
+            }
+            black_box(sum);
+        },
+    );
+}
+
+type OurEncode = unsafe extern "C" fn(i64, *const u8, usize, *const u8, usize, *const u8, usize, *mut u8, usize, *mut [u64; 1]) -> u32;
+type RustEncode = fn(&Cell) -> Result<Vec<u8>>;
+
+/// The original makes its bytes in two vectors that grow, and answers one. Ours writes to an output with room for them, from a value list that is there.
+fn encode(table: &mut Table, rows: &Rows) {
+    let lists: Vec<(Vec<u8>, Vec<u8>, Vec<u8>)> = rows.cells.iter().map(list).collect();
+    let mut out = vec![0; 1100];
+    let ours: OurEncode = black_box(ffi::smk_cell_encode);
+    let rust: RustEncode = black_box(Cell::encode);
+    table.case(
+        &format!("encode {}", rows.name),
+        lists.len(),
+        || {
+            let mut sum = 0u64;
+            for (cell, (kinds, words, data)) in rows.cells.iter().zip(&lists) {
+                let mut answer = [0; 1];
+                // SAFETY: slices with their lengths, of which none overlaps another, and an array of the declared length.
+                let number = unsafe {
+                    ours(
+                        cell.rowid,
+                        kinds.as_ptr(),
+                        kinds.len(),
+                        words.as_ptr(),
+                        words.len(),
+                        data.as_ptr(),
+                        data.len(),
+                        out.as_mut_ptr(),
+                        out.len(),
+                        &mut answer,
+                    )
+                };
+                if number == 0 {
+                    sum += answer[0];
+                }
+            }
+            black_box((sum, &out));
+        },
+        || {
+            let mut sum = 0u64;
+            for cell in &rows.cells {
+                if let Ok(bytes) = rust(cell) {
+                    sum += black_box(bytes).len() as u64;
+                }
+            }
+            black_box(sum);
+        },
+    );
+}
+
+/// A cell's value list: kinds, words, data.
+fn list(cell: &Cell) -> (Vec<u8>, Vec<u8>, Vec<u8>) {
+    let (mut kinds, mut words, mut data) = (Vec::new(), Vec::new(), Vec::new());
+    for value in &cell.values {
+        let (kind, word) = match value {
+            Some(Value::Integer(v)) => (0, *v as u64),
+            Some(Value::Real(v)) => (1, v.to_bits()),
+            Some(Value::Text(text)) => {
+                data.extend(text.as_bytes());
+                (2, text.len() as u64)
+            }
+            Some(Value::Bool(v)) => (3, u64::from(*v)),
+            _ => (255, 0),
+        };
+        kinds.push(kind);
+        words.extend(word.to_le_bytes());
+    }
+    (kinds, words, data)
+}

@@ -1,0 +1,212 @@
+//! Overflow references, paged entries and interior cells, read and written.
+
+use crate::timing::Table;
+use oracle_plain::error::Result;
+use oracle_plain::sql::db::table::Value;
+use oracle_plain::sql::pager::cell::Cell;
+use oracle_plain::sql::pager::interior_page::InteriorCell;
+use oracle_plain::sql::pager::overflow::{OverflowRef, PagedEntry};
+use seremonek::ffi;
+use std::hint::black_box;
+
+/// Inputs of one pass.
+const CALLS: usize = 4096;
+
+/// Varying numbers, the same at each run.
+struct Numbers(u64);
+
+impl Numbers {
+    fn new() -> Numbers {
+        Numbers(0x9E37_79B9_7F4A_7C15)
+    }
+
+    fn next(&mut self) -> u64 {
+        self.0 ^= self.0 << 13;
+        self.0 ^= self.0 >> 7;
+        self.0 ^= self.0 << 17;
+        self.0.wrapping_mul(0x2545_F491_4F6C_DD1D)
+    }
+
+    /// A number of any size up to `bits`: as likely short as long.
+    fn sized(&mut self, bits: u64) -> u64 {
+        let size = (self.next() >> 40) % (bits + 1);
+        self.next().checked_shr(64 - size as u32).unwrap_or(0)
+    }
+}
+
+/// A row of a logger's table: rowids that count, totals of some thousands, pages of a small file.
+fn small_reference(numbers: &mut Numbers) -> OverflowRef {
+    OverflowRef {
+        rowid: (numbers.next() >> 44) as i64,
+        total_body_len: 1023 + (numbers.next() >> 50),
+        first_overflow_page: (numbers.next() >> 52) as u32,
+    }
+}
+
+/// Numbers of every size, negative ones too.
+fn any_reference(numbers: &mut Numbers) -> OverflowRef {
+    OverflowRef { rowid: numbers.sized(64) as i64, total_body_len: numbers.sized(64), first_overflow_page: numbers.sized(32) as u32 }
+}
+
+fn small_cell(numbers: &mut Numbers) -> InteriorCell {
+    InteriorCell { divider_rowid: (numbers.next() >> 44) as i64, child_page: (numbers.next() >> 52) as u32 }
+}
+
+fn any_cell(numbers: &mut Numbers) -> InteriorCell {
+    InteriorCell { divider_rowid: numbers.sized(64) as i64, child_page: numbers.sized(32) as u32 }
+}
+
+/// A local entry of two integers and a bool, so that neither side's time is a text's.
+fn small_local(numbers: &mut Numbers) -> PagedEntry {
+    let rowid = (numbers.next() >> 44) as i64;
+    let values = vec![
+        Some(Value::Integer((numbers.next() >> 48) as i64)),
+        Some(Value::Bool(numbers.next() >> 63 == 1)),
+        None,
+        Some(Value::Integer((numbers.next() >> 40) as i64)),
+    ];
+    PagedEntry::Local(Cell::new(rowid, values))
+}
+
+fn many<T>(make: fn(&mut Numbers) -> T) -> Vec<T> {
+    let mut numbers = Numbers::new();
+    (0..CALLS).map(|_| make(&mut numbers)).collect()
+}
+
+pub fn cases(table: &mut Table) {
+    for (name, references) in [("small", many(small_reference)), ("any", many(any_reference))] {
+        let encoded: Vec<Vec<u8>> = references.iter().map(OverflowRef::encode).collect();
+        read_case(table, &format!("overflow_decode {name}"), &encoded, ffi::smk_overflow_decode, OverflowRef::decode, |r, bytes| {
+            [r.rowid as u64, r.total_body_len, u64::from(r.first_overflow_page), bytes]
+        });
+        let ours: unsafe extern "C" fn(i64, u64, u32, *mut u8, usize, *mut [u64; 1]) -> u32 = black_box(ffi::smk_overflow_encode);
+        let rust: fn(&OverflowRef) -> Vec<u8> = black_box(OverflowRef::encode);
+        write_case(
+            table,
+            &format!("overflow_encode {name}"),
+            &references,
+            // SAFETY: a slice with its length, and an array of the declared length.
+            |r, out, answer| unsafe { ours(r.rowid, r.total_body_len, r.first_overflow_page, out.as_mut_ptr(), out.len(), answer) },
+            rust,
+        );
+    }
+    let entries = [
+        ("references", many(small_reference).into_iter().map(PagedEntry::Overflow).collect::<Vec<_>>()),
+        ("any references", many(any_reference).into_iter().map(PagedEntry::Overflow).collect()),
+        ("local", many(small_local)),
+    ];
+    for (name, entries) in entries {
+        let encoded: Vec<Vec<u8>> = entries.iter().map(|entry| entry.encode().unwrap()).collect();
+        read_case(
+            table,
+            &format!("entry_decode {name}"),
+            &encoded,
+            ffi::smk_entry_decode,
+            PagedEntry::decode,
+            |entry, bytes| match entry {
+                PagedEntry::Local(cell) => [1, cell.rowid as u64, cell.values.len() as u64, 0, bytes],
+                PagedEntry::Overflow(r) => [2, r.rowid as u64, r.total_body_len, u64::from(r.first_overflow_page), bytes],
+            },
+        );
+    }
+    for (name, cells) in [("small", many(small_cell)), ("any", many(any_cell))] {
+        let encoded: Vec<Vec<u8>> = cells.iter().map(InteriorCell::encode).collect();
+        read_case(
+            table,
+            &format!("interior_decode {name}"),
+            &encoded,
+            ffi::smk_interior_cell_decode,
+            InteriorCell::decode,
+            |cell, bytes| [cell.divider_rowid as u64, u64::from(cell.child_page), bytes],
+        );
+        let ours: unsafe extern "C" fn(i64, u32, *mut u8, usize, *mut [u64; 1]) -> u32 = black_box(ffi::smk_interior_cell_encode);
+        let rust: fn(&InteriorCell) -> Vec<u8> = black_box(InteriorCell::encode);
+        write_case(
+            table,
+            &format!("interior_encode {name}"),
+            &cells,
+            // SAFETY: as above.
+            |cell, out, answer| unsafe { ours(cell.divider_rowid, cell.child_page, out.as_mut_ptr(), out.len(), answer) },
+            rust,
+        );
+    }
+}
+
+type OurRead<const N: usize> = unsafe extern "C" fn(*const u8, usize, usize, *mut [u64; N]) -> u32;
+type RustRead<T> = fn(&[u8], usize) -> Result<(T, usize)>;
+
+/// Looks at each word of an answer by itself, as a caller does: a plain sum would be taken of several at once.
+fn mixed<const N: usize>(sum: u64, words: [u64; N]) -> u64 {
+    words.iter().fold(sum, |sum, word| sum.rotate_left(5) ^ word)
+}
+
+/// The entries one behind the other in one buffer, each read at its place.
+fn read_case<T, const N: usize>(
+    table: &mut Table,
+    name: &str,
+    entries: &[Vec<u8>],
+    ours: OurRead<N>,
+    rust: RustRead<T>,
+    words: impl Fn(T, u64) -> [u64; N],
+) {
+    let (ours, rust) = (black_box(ours), black_box(rust));
+    let buf = entries.concat();
+    let places: Vec<usize> = entries.iter().scan(0, |end, entry| Some(std::mem::replace(end, *end + entry.len()))).collect();
+    table.case(
+        name,
+        places.len(),
+        || {
+            let mut sum = 0u64;
+            for pos in &places {
+                let mut answer = [0; N];
+                // SAFETY: a slice with its length, and an array of the declared length.
+                let number = unsafe { ours(buf.as_ptr(), buf.len(), *pos, &mut answer) };
+                if number == 0 {
+                    sum = mixed(sum, answer);
+                }
+            }
+            black_box(sum);
+        },
+        || {
+            let mut sum = 0u64;
+            for pos in &places {
+                if let Ok((entry, bytes)) = rust(&buf, *pos) {
+                    sum = mixed(sum, words(entry, bytes as u64));
+                }
+            }
+            black_box(sum);
+        },
+    );
+}
+
+/// The original answers a new vector at each call; ours writes to an array of 26 bytes.
+fn write_case<T>(
+    table: &mut Table,
+    name: &str,
+    values: &[T],
+    ours: impl Fn(&T, &mut [u8; 26], &mut [u64; 1]) -> u32,
+    rust: fn(&T) -> Vec<u8>,
+) {
+    let mut array = [0u8; 26];
+    table.case(
+        name,
+        values.len(),
+        || {
+            let mut sum = 0;
+            for value in values {
+                let mut answer = [0; 1];
+                if ours(value, &mut array, &mut answer) == 0 {
+                    sum += answer[0];
+                }
+            }
+            black_box((sum, &array));
+        },
+        || {
+            let mut sum = 0;
+            for value in values {
+                sum += black_box(rust(value)).len();
+            }
+            black_box(sum);
+        },
+    );
+}
