@@ -1,5 +1,5 @@
--- A plain entry that was read and accepted, written again, is the same bytes. So the bytes can differ only where a longer varint,
--- a bit above 2 ^ 63 in a tenth byte, a Bool byte above 1 or a spare bit was read.
+-- An entry that was read and accepted, written again, is the same bytes where it is plain, and only there. So the bytes differ just where
+-- a longer varint, a bit above 2 ^ 63 in a varint's tenth byte, a Bool byte above 1 or a spare bit was read.
 -- Assumes nothing.
 use mathlib.Core.Path.{_≡_, refl, sym, _∙_, ap}
 use mathlib.Core.Bool.{Bool, true, false, not}
@@ -10,29 +10,33 @@ use native.Mathlib.Omega.{arith}
 use lib.Dec.{ltb, leb, eqb}
 use lib.Ieee.{ofBits, binary64}
 use lib.IntN.{ℤ}
-use lib.ListN.{length, take, drop, getD, length-append, length-drop, length-map, take-append-drop, List·getD-eq-default}
-use lib.Seq.{length-take-le, getD-take, getD-drop, drop-drop, drop-cons, drop-length, take-at, take-nil}
+use lib.ListN.{length, take, drop, getD, replicate, length-append, length-drop, length-map, take-append-drop, List·getD-append, List·getD-eq-default}
+use lib.Seq.{drop-append-seam, take-append-seam, length-take-le, getD-take, getD-drop, drop-drop, drop-cons, drop-length, take-at, take-nil}
 use lib.Pow.{shr-shr, shr-lt}
-use borrow.Author.Tests.{ltb-true, ltb-false, leb-true, eqb-true, eqb-false}
+use mir.Syntax.{w64}
+use mir.Val.{SFits}
+use borrow.Author.Tests.{lt-ltb, ltb-true, ltb-false, leb-true, eqb-true, eqb-false}
 use Rattle.paper.specs.Answer.{Answer, gives, refuses, andThen, pick}
 use Rattle.paper.proofs.Laws.{gives-one, gives-refuses, second}
 use Rattle.field.specs.Field.{le, bytes}
-use Rattle.varint.specs.Leb.{lebBytes, readU64}
+use Rattle.varint.specs.Leb.{taken, sumFrom, readFrom, readU64, groups, lebBytes, lenU64}
 use Rattle.varint.specs.Number.{readI64}
 use Rattle.varint.specs.Standard.{Bytes, Leb128}
 use Rattle.varint.specs.Zigzag.{zigzag, unzigzag}
 use Rattle.varint.proofs.Laws.{read-is}
 use Rattle.varint.proofs.Standard.{read-sequence, written-sequence, same-length-same, exact-below-ten, exact-tenth}
-use Rattle.varint.proofs.Zigzag.{forth}
+use Rattle.varint.proofs.Zigzag.{forth, unsigned-fits}
 use Rattle.utf8.specs.WellFormed.{checkText, checkAt}
 use Rattle.cell.specs.Block.{Block, null, integer, real, bool, text, vector, block, blockOf, isNull, bitmapBytes, columns}
-use Rattle.cell.specs.Content.{Content, truth, contentOf}
+use Rattle.cell.specs.Content.{Content, none, whole, float, truth, letters, floats, contentOf}
 use Rattle.cell.specs.Entry.{framed, bodyAt, entry}
 use Rattle.cell.specs.Local.{blocksAt, rowOf, localBody, cellFrom}
 use Rattle.cell.specs.Plain.{Shortest, PlainNumber, PlainBlock, PlainColumns, SpareClear, PlainBody, Plain}
 use Rattle.cell.specs.Written.{blockBytes, blocksBytes, nullBit, nullBits, bitmap, bodyBytes, entryBytes}
-use Rattle.cell.proofs.ReadWritten.{unknown, bytes-take}
-use Rattle.cell.proofs.Reread.{Nulled, bit-small}
+use Rattle.cell.proofs.Lengths.{bitmap-length}
+use Rattle.cell.proofs.Listed.{Sound, AllSound}
+use Rattle.cell.proofs.ReadWritten.{ShortRow, FineRow, unknown, body-fine, bytes-take, part-most, framed-fits}
+use Rattle.cell.proofs.Reread.{Stands, Nulled, stands-first, stands-second, stands-head, stands-tail, stands-number, bit-small, byte-at, nulled-from, column-read}
 use Rattle.cell.proofs.Whole.{framing}
 use Rattle.cell.proofs.WrittenRead.{byte-below, bytes-drop}
 
@@ -75,6 +79,11 @@ number-fills s at {v} {n} b e p =
     let h : take n (drop at s) ≡ lebBytes v
     = same-length-same (q .sequence) (written-sequence v (w .fits)) (sym (q .modulo ∙ x)) (k ∙ c .taken) in
     rw h at (fills-part s at n)
+
+-- The tenth byte is a case of its own: of these ten bytes none is too many, and the last is written otherwise.
+pub tenth-differs : (readFrom (replicate 9 128 ++ 3 ∷ []) ≡ gives (2 ^ 63, 10)) × (lebBytes (2 ^ 63) ≡ replicate 9 128 ++ 1 ∷ [])
+unfolding readFrom taken sumFrom andThen pick lebBytes groups
+tenth-differs = (refl, refl)
 
 -- ---- a field of n bytes is those bytes
 field-fills : (n at : ℕ) (s : List ℕ) → Bytes s → at + n ≤ length s → Fills s at (bytes n (le n at s)) (at + n)
@@ -373,7 +382,7 @@ body-same body b p = by (eqb (length body) 0) refl (eqb (getD body 0 0) 1) refl
         row-same body b (omega (arith, z)) (eqb-true (getD body 0 0) 1 f) p
     by false e false f = tt
 
--- ---- the theorem: the entry's bytes, from its first to its last
+-- ---- the theorem: a plain entry is written as it was read
 pub plain-written : (s : List ℕ) {n len size : ℕ} {rowid : ℤ} {bs : List Block} → Bytes s → Plain s → framed s ≡ gives (n, len)
     → cellFrom s ≡ gives ((rowid, bs), size) → entryBytes (rowid, map (contentOf (bodyAt s n len)) bs) ≡ take size s
 unfolding cellFrom entry andThen entryBytes Plain readU64
@@ -395,3 +404,174 @@ plain-written s {n} {len} {size} {rowid} {bs} b p f e =
         = length-append (lebBytes len) (bodyAt s n len) ∙ rw (l, ← p .0 (len, n) (w .read) .taken) in
         let front : take (n + len) s ≡ lebBytes len ++ bodyAt s n len = ap (take (n + len)) (all .is) ∙ take-at (lebBytes len ++ bodyAt s n len) (drop (n + len) s) (n + len) m in
         rw (← z, ← c, ← d, ← h, l, front)
+
+-- ---- what is written is plain
+
+-- a number below 2 ^ 64 has one bit left for its tenth group
+group-small : (n k v : ℕ) → v < 2 ^ (7 * k + 1) → getD (groups n v) k 0 ≤ 1
+unfolding groups pick
+group-small zero k v l = omega arith
+group-small (suc n) zero v l = let h : v < 128 = omega arith in rw (lt-ltb v 128 h) (omega arith)
+group-small (suc n) (suc k) v l =
+    let e : 7 * suc k + 1 ≡ 7 * k + 1 + 7 = omega arith in
+    by (ltb v 128) (group-small n k (v / 128) (shr-lt (7 * k + 1) 7 (rw e at l)))
+  where
+    by : (t : Bool) → getD (groups n (v / 128)) k 0 ≤ 1 → getD (pick t (v ∷ []) ((128 + v % 128) ∷ groups n (v / 128))) (suc k) 0 ≤ 1
+    by true h = omega arith
+    by false h = h
+
+module _ {s : List ℕ} {at : ℕ} {b : List ℕ} (v : ℕ) (l : v < 2 ^ 64) (w : Stands s at (lebBytes v) b) where
+  shortest : Shortest s at v (lenU64 v)
+  unfolding lebBytes
+  shortest =
+      record {
+        taken = refl;
+        tenth = λ e. let i : 9 < length (lebBytes v) = omega arith in
+            let d : getD s (at + 9) 0 ≡ getD (lebBytes v) 9 0
+            = sym (getD-drop at s 9 0) ∙ ap (λ (x : List ℕ). getD x 9 0) (w .is) ∙ List·getD-append (lebBytes v) b 0 9 i in
+            rw d (group-small 10 9 v l);
+      }
+
+  number-plain : PlainNumber s at
+  number-plain a e = rw (← gives-one (sym (stands-number v l w) ∙ e)) shortest
+
+byte-low : (b : Bool) → pick b 1 0 ≤ 1
+unfolding pick
+byte-low true = omega arith
+byte-low false = omega arith
+
+module _ {body : List ℕ} {at : ℕ} {t : List ℕ} where
+  block-plain : (c : Content) → Sound c → (nullBit c ≡ 1 → ⊥) → Stands body at (blockBytes c) t → PlainBlock body at
+  unfolding blockBytes nullBit
+  block-plain none s z w = absurd (z refl)
+  block-plain (whole v) s z w =
+      let h : getD body at 0 ≡ 0 = stands-head w in
+      record {
+        integer = λ _. number-plain (zigzag v) (unsigned-fits v s) (stands-tail w);
+        text = λ e. absurd (omega arith);
+        bool = λ e. absurd (omega arith);
+        vector = λ e. absurd (omega arith);
+      }
+  block-plain (float bits) s z w =
+      let h : getD body at 0 ≡ 1 = stands-head w in
+      record { integer = λ e. absurd (omega arith); text = λ e. absurd (omega arith); bool = λ e. absurd (omega arith); vector = λ e. absurd (omega arith) }
+  block-plain (truth b) s z w =
+      let h : getD body at 0 ≡ 3 = stands-head w in
+      record {
+        integer = λ e. absurd (omega arith);
+        text = λ e. absurd (omega arith);
+        bool = λ _. rw (stands-head (stands-tail w)) (byte-low b);
+        vector = λ e. absurd (omega arith);
+      }
+  block-plain (letters v) s z w =
+      let h : getD body at 0 ≡ 2 = stands-head w in
+      record {
+        integer = λ e. absurd (omega arith);
+        text = λ _. number-plain (length v) (s .1) (stands-first (lebBytes (length v)) v (stands-tail w));
+        bool = λ e. absurd (omega arith);
+        vector = λ e. absurd (omega arith);
+      }
+  block-plain (floats v) s z w =
+      let h : getD body at 0 ≡ 4 = stands-head w in
+      record {
+        integer = λ e. absurd (omega arith);
+        text = λ e. absurd (omega arith);
+        bool = λ e. absurd (omega arith);
+        vector = λ _. number-plain (length v / 4) (s .1) (stands-first (lebBytes (length v / 4)) v (stands-tail w));
+      }
+
+columns-plain : {body : List ℕ} (place : ℕ) (cs : List Content) (column at : ℕ) {t : List ℕ} → AllSound cs → Nulled body place column cs
+    → Stands body at (blocksBytes cs) t → PlainColumns (length cs) column place body at
+unfolding PlainColumns blocksBytes
+columns-plain place [] column at s n w = tt
+columns-plain {body} place (c ∷ cs) column at s n w =
+    let f : Stands body at (blockBytes c) (blocksBytes cs ++ _) = stands-first (blockBytes c) (blocksBytes cs) w in
+    let rest = columns-plain place cs (column + 1) (at + length (blockBytes c)) (s .1) (n .1) (stands-second (blockBytes c) (blocksBytes cs) w) in (
+      λ e. block-plain c (s .0) (λ one. eqb-false (nullBit c) 1 (sym (n .0) ∙ e) one) f,
+      λ a e. rw (← gives-one (sym (column-read place c column at (s .0) (n .0) f) ∙ e)) rest,
+    )
+
+-- bit j of a byte is that of column j, and 0 past the last
+bits-told : (k j : ℕ) (cs : List Content) → j < k → nullBits (take k cs) / 2 ^ j % 2 ≡ bitOf cs j
+bits-told zero j cs l = absurd (omega arith)
+bits-told (suc k) zero cs l =
+    let x : ℕ = bitOf cs 0 + 2 * nullBits (take k (drop 1 cs)) in
+    let o : x / 1 ≡ x = div-one x in
+    rw (bits-step k cs, o) (omega (arith, bit-small (getD cs 0 (truth false))))
+bits-told (suc k) (suc j) cs l =
+    let x : ℕ = bitOf cs 0 + 2 * nullBits (take k (drop 1 cs)) in
+    let o : x / 2 ^ 1 ≡ nullBits (take k (drop 1 cs)) = omega (arith, bit-small (getD cs 0 (truth false))) in
+    let d : 1 + j ≡ suc j = omega arith in
+    rw (bits-step k cs, ← d, ← shr-shr x 1 j, o) (bits-told k j (drop 1 cs) (omega arith) ∙ rw (getD-drop 1 cs j (truth false)))
+
+spare-clear : {body : List ℕ} (place : ℕ) {t : List ℕ} (cs : List Content) → Stands body place (bitmap (bitmapBytes (length cs)) cs) t
+    → SpareClear (length cs) body place
+unfolding SpareClear isNull nullBit
+spare-clear {body} place {t} cs w c past l =
+    let n : ℕ = bitmapBytes (length cs) in
+    let i : c / 8 < n = omega arith in
+    let k : c / 8 < length (bitmap n cs) = rw (bitmap-length n cs) i in
+    let d : 8 * (c / 8) + c % 8 ≡ c = omega arith in
+    let m : c % 8 < 8 = omega arith in
+    let b : getD body (place + c / 8) 0 ≡ nullBits (take 8 (drop (8 * (c / 8)) cs))
+    = sym (getD-drop place body (c / 8) 0) ∙ ap (λ (s : List ℕ). getD s (c / 8) 0) (w .is)
+    ∙ List·getD-append (bitmap n cs) t 0 (c / 8) k ∙ byte-at n (c / 8) cs i in
+    rw (b, bits-told 8 (c % 8) (drop (8 * (c / 8)) cs) m, getD-drop (8 * (c / 8)) cs (c % 8) (truth false), d, List·getD-eq-default cs (truth false) past)
+
+module _ (rowid : ℤ) (cs : List Content) (f : SFits w64 rowid) (s : AllSound cs) (l : length cs < 2 ^ 64) where
+  body-plain : PlainBody (bodyBytes (rowid, cs))
+  unfolding PlainBody bodyBytes
+  body-plain =
+      let body : List ℕ = bodyBytes (rowid, cs) in
+      let n : ℕ = lenU64 (zigzag rowid) in
+      let m : ℕ = lenU64 (length cs) in
+      let place : ℕ = 1 + n + m in
+      let size : ℕ = bitmapBytes (length cs) in
+      let nulls : List ℕ = bitmap size cs in
+      let tail : List ℕ = nulls ++ blocksBytes cs in
+      let start : Stands body 0 (1 ∷ (lebBytes (zigzag rowid) ++ (lebBytes (length cs) ++ tail))) [] = record { within = omega arith; is = sym (append-nil body) } in
+      let from-rowid : Stands body 1 (lebBytes (zigzag rowid) ++ (lebBytes (length cs) ++ tail)) [] = stands-tail {at = 0} start in
+      let at-rowid = stands-first (lebBytes (zigzag rowid)) (lebBytes (length cs) ++ tail) from-rowid in
+      let from-count : Stands body (1 + n) (lebBytes (length cs) ++ tail) [] = stands-second (lebBytes (zigzag rowid)) (lebBytes (length cs) ++ tail) from-rowid in
+      let at-count = stands-first (lebBytes (length cs)) tail from-count in
+      let from-map : Stands body place tail [] = stands-second (lebBytes (length cs)) tail from-count in
+      let at-map = stands-first nulls (blocksBytes cs) from-map in
+      let at-blocks : Stands body (place + size) (blocksBytes cs) [] = rw (bitmap-length size cs) at (stands-second nulls (blocksBytes cs) from-map) in
+      let spare : SpareClear (length cs) body place = spare-clear place cs at-map in
+      let columns : PlainColumns (length cs) 0 place body (place + size)
+      = columns-plain place cs 0 (place + size) s (nulled-from cs at-map 0 cs refl) at-blocks in (
+        number-plain (zigzag rowid) (unsigned-fits rowid f) at-rowid,
+        λ a e. rw (← gives-one (sym (stands-number (zigzag rowid) (unsigned-fits rowid f) at-rowid) ∙ e)) (
+          number-plain (length cs) l at-count,
+          λ b g. rw (← gives-one (sym (stands-number (length cs) l at-count) ∙ g)) (spare, columns),
+        ),
+      )
+
+  entry-plain : length (bodyBytes (rowid, cs)) < 2 ^ 64 → (t : List ℕ) → Plain (entryBytes (rowid, cs) ++ t)
+  unfolding Plain entryBytes
+  entry-plain k t =
+      let body : List ℕ = bodyBytes (rowid, cs) in
+      let n : ℕ = length body in
+      let w : Stands ((lebBytes n ++ body) ++ t) 0 (lebBytes n) (body ++ t) = record { within = omega arith; is = append-assoc (lebBytes n) body t } in
+      let d : bodyAt ((lebBytes n ++ body) ++ t) (lenU64 n) n ≡ body
+      = rw (append-assoc (lebBytes n) body t, drop-append-seam (lebBytes n) (body ++ t), take-append-seam body t) in
+      (number-plain n k w, λ a e. rw (← gives-one (sym (stands-number n k w) ∙ e), d) body-plain)
+
+-- The other direction: an entry that is written as it was read is plain, so the bytes do differ where anything else was read.
+pub written-plain : (s : List ℕ) {n len size : ℕ} {rowid : ℤ} {bs : List Block} → Bytes s → framed s ≡ gives (n, len)
+    → cellFrom s ≡ gives ((rowid, bs), size) → entryBytes (rowid, map (contentOf (bodyAt s n len)) bs) ≡ take size s → Plain s
+unfolding cellFrom entry andThen
+written-plain s {n} {len} {size} {rowid} {bs} b f e same =
+    by (localBody (bodyAt s n len)) (body-fine (bodyAt s n len) (bytes-take len (drop n s) (bytes-drop n s b))) (rw f at e)
+  where
+    by : (a : Answer (ℤ × List Block)) → FineRow (bodyAt s n len) a → andThen {B = (ℤ × List Block) × ℕ} a (λ row. gives (row, n + len)) ≡ gives ((rowid, bs), size) → Plain s
+    by (refuses k) w g = absurd (gives-refuses (sym g))
+    by (gives (r, xs)) w g =
+        let c : r ≡ rowid = ap (λ (q : (ℤ × List Block) × ℕ). q .0 .0) (gives-one g) in
+        let d : xs ≡ bs = ap (λ (q : (ℤ × List Block) × ℕ). q .0 .1) (gives-one g) in
+        let v : ShortRow (bodyAt s n len) rowid bs = rw (← c, ← d) w in
+        let cs : List Content = map (contentOf (bodyAt s n len)) bs in
+        let k : length cs < 2 ^ 64 = rw (length-map bs (contentOf (bodyAt s n len))) (v .count) in
+        let o : length (bodyBytes (rowid, cs)) < 2 ^ 64 = omega (arith, v .size, part-most len (drop n s), framed-fits s f) in
+        let z : entryBytes (rowid, cs) ++ drop size s ≡ s = rw same (take-append-drop size s) in
+        rw z at (entry-plain rowid cs (v .fits) (v .sound) k o (drop size s))

@@ -186,13 +186,13 @@ module _ (body : List ℕ) (place : ℕ) (b : Bytes body) where
       by (gives (x, next)) w ih = joined x next w (columns n (column + 1) place body next) (ih next)
 
 -- ---- the row
-record ShortRow (body : List ℕ) (rowid : ℤ) (bs : List Block) : Type 0 where
+pub record ShortRow (body : List ℕ) (rowid : ℤ) (bs : List Block) : Type 0 where
   pub fits : SFits w64 rowid
   pub sound : AllSound (map (contentOf body) bs)
   pub count : length bs < 2 ^ 64
   pub size : length (bodyBytes (rowid, map (contentOf body) bs)) ≤ length body
 
-abbrev FineRow : List ℕ → Answer (ℤ × List Block) → Type 0
+abbrev pub FineRow : List ℕ → Answer (ℤ × List Block) → Type 0
 FineRow body (gives (rowid, bs)) = ShortRow body rowid bs
 FineRow body (refuses k) = Unit {0}
 
@@ -250,7 +250,7 @@ module _ (body : List ℕ) (b : Bytes body) where
       by (refuses k) e = tt
       by (gives (u, n)) e = next u n e (readU64 body (1 + n)) refl
 
-  body-fine : FineRow body (localBody body)
+  pub body-fine : FineRow body (localBody body)
   unfolding localBody pick
   body-fine = by (eqb (length body) 0) (eqb (getD body 0 0) 1)
     where
@@ -265,12 +265,12 @@ bytes-take zero s b = tt
 bytes-take (suc n) [] b = tt
 bytes-take (suc n) (x ∷ s) b = (b .0, bytes-take n s (b .1))
 
-part-most : (n : ℕ) (s : List ℕ) → length (take n s) ≤ n
+pub part-most : (n : ℕ) (s : List ℕ) → length (take n s) ≤ n
 part-most zero s = omega arith
 part-most (suc n) [] = omega arith
 part-most (suc n) (x ∷ s) = let h : length (take n s) ≤ n = part-most n s in omega arith
 
-framed-fits : (s : List ℕ) {n len : ℕ} → framed s ≡ gives (n, len) → len < 2 ^ 64
+pub framed-fits : (s : List ℕ) {n len : ℕ} → framed s ≡ gives (n, len) → len < 2 ^ 64
 unfolding framed andThen pick
 framed-fits s {n} {len} e = by (readFrom s) refl e
   where

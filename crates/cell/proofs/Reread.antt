@@ -67,23 +67,23 @@ module _ {s : List ℕ} {at : ℕ} {a b : List ℕ} (w : Stands s at a b) where
   stands-next c d e = record { within = omega (arith, stands-length); is = stands-behind ∙ e }
 
 -- the first bytes of those that stand there
-stands-first : {s : List ℕ} {at : ℕ} (a b : List ℕ) {c : List ℕ} → Stands s at (a ++ b) c → Stands s at a (b ++ c)
+pub stands-first : {s : List ℕ} {at : ℕ} (a b : List ℕ) {c : List ℕ} → Stands s at (a ++ b) c → Stands s at a (b ++ c)
 stands-first a b {c} w = record { within = w .within; is = w .is ∙ append-assoc a b c }
 
-stands-second : {s : List ℕ} {at : ℕ} (a b : List ℕ) {c : List ℕ} → Stands s at (a ++ b) c → Stands s (at + length a) b c
+pub stands-second : {s : List ℕ} {at : ℕ} (a b : List ℕ) {c : List ℕ} → Stands s at (a ++ b) c → Stands s (at + length a) b c
 stands-second a b {c} w = stands-next (stands-first a b w) b c refl
 
 module _ {s : List ℕ} {at x : ℕ} {a b : List ℕ} (w : Stands s at (x ∷ a) b) where
   stands-inside : at < length s
   stands-inside = omega (arith, stands-length w)
 
-  stands-head : getD s at 0 ≡ x
+  pub stands-head : getD s at 0 ≡ x
   stands-head = let d : at + 0 ≡ at = add-zero at in rw (← d) (sym (getD-drop at s 0 0) ∙ ap (λ (l : List ℕ). getD l 0 0) (w .is))
 
-  stands-tail : Stands s (at + 1) a b
+  pub stands-tail : Stands s (at + 1) a b
   stands-tail = stands-second (x ∷ []) a w
 
-stands-number : {s : List ℕ} {at : ℕ} {b : List ℕ} (v : ℕ) → v < 2 ^ 64 → Stands s at (lebBytes v) b → readU64 s at ≡ gives (v, lenU64 v)
+pub stands-number : {s : List ℕ} {at : ℕ} {b : List ℕ} (v : ℕ) → v < 2 ^ 64 → Stands s at (lebBytes v) b → readU64 s at ≡ gives (v, lenU64 v)
 unfolding readU64
 stands-number {b = b} v l w = rw (w .is) (number-read v l b)
 
@@ -180,7 +180,7 @@ bit-at (suc k) (suc j) (x ∷ cs) c ds h e =
     let o : n / 2 ^ 1 ≡ nullBits (take k cs) = omega (arith, bit-small x) in
     rw (← g, ← f, o) (bit-at k j cs c ds (omega arith) e)
 
-byte-at : (n b : ℕ) (cs : List Content) → b < n → getD (bitmap n cs) b 0 ≡ nullBits (take 8 (drop (8 * b) cs))
+pub byte-at : (n b : ℕ) (cs : List Content) → b < n → getD (bitmap n cs) b 0 ≡ nullBits (take 8 (drop (8 * b) cs))
 unfolding bitmap
 byte-at zero b cs h = absurd (omega arith)
 byte-at (suc n) zero cs h = refl
@@ -208,14 +208,14 @@ module _ {body : List ℕ} {place : ℕ} {t : List ℕ} (cs : List Content) (w :
       ∙ List·getD-append (bitmap ((length cs + 7) / 8) cs) t 0 (c / 8) k ∙ byte-at ((length cs + 7) / 8) (c / 8) cs l in
       rw (b, bit-at 8 (c % 8) (drop (8 * (c / 8)) cs) x ds j g)
 
-  nulled-from : (c : ℕ) (ds : List Content) → drop c cs ≡ ds → Nulled body place c ds
+  pub nulled-from : (c : ℕ) (ds : List Content) → drop c cs ≡ ds → Nulled body place c ds
   nulled-from c [] e = tt
   nulled-from c (x ∷ ds) e =
       (null-at c x ds e, nulled-from (c + 1) ds (sym (drop-drop 1 c cs) ∙ ap (λ (s : List Content). drop 1 s) e))
 
 -- ---- the columns
 module _ {body : List ℕ} (place : ℕ) where
-  column-read : (c : Content) (column at : ℕ) {t : List ℕ} → Sound c → isNull body place column ≡ eqb (nullBit c) 1 → Stands body at (blockBytes c) t
+  pub column-read : (c : Content) (column at : ℕ) {t : List ℕ} → Sound c → isNull body place column ≡ eqb (nullBit c) 1 → Stands body at (blockBytes c) t
       → pick (isNull body place column) (gives (null, at)) (block body at) ≡ gives (laidAt at c, at + length (blockBytes c))
   unfolding nullBit pick blockBytes laidAt
   column-read none column at s e w = let d : at + 0 ≡ at = add-zero at in rw (e, d)
