@@ -283,8 +283,7 @@ framed-fits s {n} {len} e = by (readFrom s) refl e
     by (gives (m, k)) f g = tested (ltb (length s - k) m) m k f g
 
 -- An entry that was read has a body, which says a row. That row, written again with any bytes behind it, reads as the same row, and
--- its body is no longer. (It is shorter where a varint was longer than it need be; else it may differ in a Bool byte above 1 and in
--- spare bits, which the row does not tell.)
+-- its body is no longer. (Where its bytes differ is said in `PlainWritten`.)
 pub record Rewritten (s : List ℕ) (rowid : ℤ) (bs : List Block) (t : List ℕ) : Type 0 where
   pub start : ℕ
   pub len : ℕ
