@@ -1,28 +1,26 @@
 -- A local body whole, and the frame of an entry.
 -- Assumes nothing.
-use mathlib.Core.Path.{_≡_, refl, sym, _∙_, ap}
+use mathlib.Core.Path.{_≡_, refl, sym, ap}
 use mathlib.Core.Bool.{Bool, true, false}
 use mathlib.Core.List.{List}
-use Prim.Native.Nat.{ℕ, zero, _+_, _-_, _*_, _^_, _≤_, _<_}
+use Prim.Native.Nat.{ℕ, _+_, _-_, _*_, _^_, _≤_, _<_}
 use native.Mathlib.Omega.{arith}
 use lib.Dec.{ltb, eqb}
-use lib.IntN.{ℤ}
-use lib.ListN.{length, drop, getD}
+use lib.ListN.{length, getD}
 use borrow.Author.Needs.{needs}
 use borrow.Author.Tests.{lt-ltb, le-ltb, eq-eqb, ne-eqb, eqb-true, ltb-false}
 use Rattle.paper.specs.Answer.{Answer, gives, refuses, andThen, pick}
 use Rattle.paper.specs.Coded.{Coded}
 use Rattle.paper.proofs.Coding.{coded-place, coded-refusal, is-place, is-refusal, is-number}
-use Rattle.paper.proofs.Laws.{gives-one, gives-refuses, refuses-one, first, second}
-use Rattle.varint.specs.Leb.{readU64, readFrom}
-use Rattle.varint.specs.Number.{readI64}
+use Rattle.paper.proofs.Laws.{gives-refuses, refuses-one}
+use Rattle.varint.specs.Leb.{readU64}
 use Rattle.varint.specs.Scan.{FoundAt}
 use Rattle.varint.specs.Zigzag.{unzigzag}
 use Rattle.varint.proofs.Places.{at-short, at-long, at-value, at-inside, signed-gives, signed-refuses}
 use Rattle.cell.specs.Entry.{framed}
 use Rattle.cell.specs.Block.{Block, columns, bitmapBytes}
 use Rattle.cell.specs.Local.{blocksAt, rowOf, localBody}
-use Rattle.cell.specs.Words.{columnsEnd, bodyEnd, RowidAt, Stands, Locally, Frame}
+use Rattle.cell.specs.Words.{columnsEnd, bodyEnd, RowidAt, Locally, Frame}
 
 -- ---- the bitmap, the columns, and nothing left over
 module _ (body : List ℕ) (count map : ℕ) {b : ℕ} (e : b ≡ bitmapBytes count) where

@@ -3,7 +3,6 @@
 use mathlib.Core.Path.{_≡_, sym, ap}
 use Prim.Native.Nat.{ℕ}
 use lib.IntN.{ℤ}
-use Rattle.paper.specs.Answer.{Answer, gives, refuses}
 use Rattle.paper.proofs.Laws.{gives-one, gives-refuses, refuses-one}
 use Rattle.cell.specs.Paper.{paperKind, paperRowid, paperSize, paperHead}
 use Rattle.cell.specs.declared.Decoded.{Decoded}

@@ -1,8 +1,7 @@
 -- The head of a local entry.
 -- Assumes nothing.
 use mathlib.Core.Path.{_≡_, refl, sym, _∙_, ap}
-use mathlib.Core.List.{List, [], _∷_}
-use mathlib.Core.Bool.{Bool, true, false}
+use mathlib.Core.List.{List, _∷_}
 use Prim.Native.Nat.{ℕ, zero, suc, _+_, _-_, _^_, _≤_, _<_}
 use native.Mathlib.Nat.{le-of-eq}
 use native.Mathlib.Omega.{arith}
@@ -11,13 +10,13 @@ use lib.ListN.{length, take, drop, length-drop, drop-of-length-le}
 use lib.Seq.{take-all}
 use borrow.Author.Needs.{needs}
 use Rattle.paper.specs.Answer.{Answer, gives, refuses, andThen, pick}
-use Rattle.paper.proofs.Laws.{gives-one, gives-refuses, first, second}
+use Rattle.paper.proofs.Laws.{gives-one, gives-refuses, first}
 use Rattle.varint.specs.Leb.{readFrom, taken}
 use Rattle.varint.specs.Zigzag.{unzigzag}
 use Rattle.cell.specs.Entry.{framed, entry}
 use Rattle.cell.specs.Block.{Block, null, block, columns, isNull}
-use Rattle.cell.specs.Local.{localBody, cellFrom, headFrom}
-use Rattle.cell.specs.Words.{Frame, Locally, Stands}
+use Rattle.cell.specs.Local.{cellFrom, headFrom}
+use Rattle.cell.specs.Words.{Frame, Locally}
 use Rattle.cell.specs.Paper.{paperHead}
 use Rattle.cell.specs.declared.Head.{Head}
 use Rattle.cell.specs.declared.Decoded.the-variants as D

@@ -2,11 +2,11 @@
 -- Assumes nothing.
 use mathlib.Core.Path.{_≡_, refl, sym, _∙_, ap}
 use mathlib.Core.List.{List, [], _∷_, _++_, append-assoc, append-nil}
-use Prim.Native.Nat.{ℕ, suc, _+_, _-_, _*_, _^_, _≤_, _<_}
+use Prim.Native.Nat.{ℕ, suc, _+_, _-_, _^_, _≤_, _<_}
 use native.Mathlib.Nat.{add-zero}
 use native.Mathlib.Omega.{arith}
 use lib.IntN.{ℤ}
-use lib.ListN.{length, take, drop, length-append, length-drop}
+use lib.ListN.{length, drop, length-append, length-drop}
 use lib.Seq.{drop-append-seam, take-append-seam, drop-drop}
 use mir.Syntax.{w64}
 use mir.Val.{SFits}
@@ -20,7 +20,7 @@ use Rattle.varint.specs.Number.{readI64, lenI64}
 use Rattle.varint.specs.Zigzag.{zigzag}
 use Rattle.varint.proofs.Standard.{written-read}
 use Rattle.varint.proofs.Zigzag.{signed-written-read}
-use Rattle.cell.specs.Entry.{framed, bodyAt, entry}
+use Rattle.cell.specs.Entry.{framed, entry}
 use Rattle.cell.specs.Keyed.{keyedAt, pageAt, withLength, keyedBytes}
 
 -- an entry whose body reads back

@@ -1,18 +1,18 @@
 -- Writing what overflow references and interior entries share.
 -- Assumes nothing.
-use mathlib.Core.Path.{_≡_, refl, sym, _∙_, ap}
+use mathlib.Core.Path.{_≡_, refl, _∙_}
 use mathlib.Core.List.{List, [], _∷_, _++_}
-use Prim.Native.Nat.{ℕ, zero, suc, _+_, _-_, _^_, _≤_, _<_}
+use Prim.Native.Nat.{ℕ, _+_, _-_, _≤_, _<_}
 use native.Mathlib.Omega.{arith}
 use lib.IntN.{ℤ}
 use mir.Syntax.{w64}
 use mir.Val.{SFits, ofZ, toZ}
 use mir.ValLaws.{toZ-ofZ}
 use Rattle.varint.specs.Zigzag.{zigzag}
-use lib.ListN.{length, take, drop, set, length-append, length-set}
+use lib.ListN.{length, take, drop, set}
 use borrow.Author.Tests.{lt-ltb, le-ltb}
 use borrow.Rule.Slice.PartMut.{putMid}
-use Rattle.paper.specs.Answer.{Answer, gives, refuses, pick, over, put, sizeOf}
+use Rattle.paper.specs.Answer.{pick, over, put, sizeOf}
 use Rattle.field.specs.Field.{bytes}
 use Rattle.field.proofs.Storing.{length-bytes}
 use Rattle.varint.specs.Leb.{lebBytes}
@@ -20,7 +20,7 @@ use Rattle.varint.specs.Paper.{paperWrote}
 use Rattle.varint.specs.declared.Wrote.the-variants as W
 use Rattle.varint.proofs.Limits.{groups-last, groups-most}
 use Rattle.cell.specs.Keyed.{keyOf, overAt, withLength, fitted}
-use Rattle.cell.proofs.Placing.{lent, then-over, rest-all, over-then, placing}
+use Rattle.cell.proofs.Placing.{lent, then-over, over-then, placing}
 
 -- a varint has ten bytes at most
 pub leb-most : (v : ℕ) → length (lebBytes v) ≤ 10

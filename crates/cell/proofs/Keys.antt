@@ -1,6 +1,6 @@
 -- The rowid after a kind byte, the page number at a body's end, and entries of any kind from their frame and their body.
 -- Assumes nothing.
-use mathlib.Core.Path.{_≡_, refl, sym, _∙_, ap}
+use mathlib.Core.Path.{_≡_, refl, _∙_, ap}
 use mathlib.Core.List.{List}
 use Prim.Native.Nat.{ℕ, _+_, _-_, _*_, _^_, _≤_, _<_}
 use native.Mathlib.Nat.{add-zero, le-of-eq}
@@ -15,11 +15,9 @@ use Rattle.paper.specs.Answer.{Answer, gives, refuses, andThen, pick}
 use Rattle.paper.proofs.Coding.{coded-place, coded-refusal}
 use Rattle.field.specs.Field.{le}
 use Rattle.field.proofs.Laws.{le-drop}
-use Rattle.varint.specs.Number.{readI64}
 use Rattle.varint.specs.Scan.{FoundAt}
-use Rattle.varint.specs.Zigzag.{unzigzag}
 use Rattle.varint.proofs.Places.{at-short, at-long, at-value, at-inside, signed-gives, signed-refuses}
-use Rattle.cell.specs.Entry.{framed, entry}
+use Rattle.cell.specs.Entry.{entry}
 use Rattle.cell.specs.Keyed.{Keyed, PageWord, keyedAt, pageAt}
 use Rattle.cell.specs.Words.{Frame}
 

@@ -1,20 +1,17 @@
 -- Numbers in an output that has room: a varint's bytes, and the ZigZag number of 64 bits.
 -- Assumes nothing.
 use mathlib.Core.Path.{_≡_, _∙_, ap}
-use mathlib.Core.List.{List, [], _∷_}
+use mathlib.Core.List.{[], _∷_}
 use Prim.Native.Nat.{ℕ, suc, _+_, _-_, _%_, _^_, _≤_, _<_}
 use native.Mathlib.Omega.{arith}
-use lib.ListN.{length, set}
+use lib.ListN.{length}
 use lib.IntN.{negsuc}
 use mir.Syntax.{w64}
 use mir.Val.{Fits, toZ}
 use mir.ValLaws.{toZ-pos, toZ-neg}
-use borrow.Author.Tests.{le-ltb}
-use Rattle.paper.specs.Answer.{pick, over, put}
-use Rattle.varint.specs.Leb.{lebBytes, lenU64, writeU64}
+use Rattle.varint.specs.Leb.{lebBytes}
 use Rattle.varint.specs.Zigzag.{zigzag}
 use Rattle.varint.proofs.Limits.{groups-last, groups-some}
-use Rattle.varint.proofs.Writing.{Filling, filling-start, filling-inside, filling-more, filling-count, filling-done}
 use Rattle.cell.proofs.Placing.{placing}
 
 -- ---- ZigZag: the bits doubled modulo 2 ^ 64, complemented from 2 ^ 63 on

@@ -2,14 +2,14 @@
 -- Assumes nothing.
 use mathlib.Core.Path.{_≡_, refl, sym, _∙_, ap}
 use mathlib.Core.Bool.{Bool, true, false}
-use mathlib.Core.List.{List, [], _∷_, _++_, append-assoc}
-use Prim.Native.Nat.{ℕ, zero, suc, _+_, _-_, _≤_, _<_}
+use mathlib.Core.List.{List, _++_, append-assoc}
+use Prim.Native.Nat.{ℕ, _+_, _-_, _≤_, _<_}
 use native.Mathlib.Nat.{add-zero}
 use native.Mathlib.Omega.{arith}
 use lib.Dec.{ltb, eqb}
 use lib.IntN.{ℤ}
-use lib.ListN.{length, take, drop, getD, length-append, length-drop, length-take, take-append-drop, List·getD-append}
-use lib.Seq.{take-add, take-take, take-append-le, drop-append-le, length-take-le, getD-take, getD-drop, drop-drop, take-at, drop-at}
+use lib.ListN.{length, take, drop, getD, length-append, length-drop, take-append-drop}
+use lib.Seq.{take-add, drop-append-le, length-take-le, getD-take, getD-drop, drop-drop, take-at, drop-at}
 use borrow.Author.Tests.{lt-ltb, le-ltb, ltb-false, eqb-true, eqb-false}
 use Rattle.paper.specs.Answer.{Answer, gives, refuses, andThen, pick}
 use Rattle.paper.proofs.Laws.{gives-one, gives-refuses, first, second}

@@ -1,6 +1,6 @@
 -- Document 01, "Entries": the null bitmap and the value blocks of a local entry's body. Places count from the start of the body.
 use Prim.Native.Nat.{ℕ, zero, suc, _+_, _-_, _*_, _/_, _%_, _^_}
-use mathlib.Core.Bool.{Bool, true, false, not}
+use mathlib.Core.Bool.{Bool, not}
 use mathlib.Core.List.{List, [], _∷_}
 use lib.Dec.{ltb, eqb}
 use lib.Ieee.{Float, ofBits, binary64}

@@ -1,7 +1,7 @@
 -- A row of values: what both reading and writing mean.
 use Prim.Native.Nat.{ℕ, _*_}
 use mathlib.Core.Bool.{Bool}
-use mathlib.Core.List.{List, map}
+use mathlib.Core.List.{List}
 use lib.IntN.{ℤ}
 use lib.ListN.{take, drop}
 use Rattle.cell.specs.Block.{Block, null, integer, real, bool, text, vector}

@@ -8,7 +8,7 @@ use lib.IntN.{ℤ}
 use lib.ListN.{length, take, drop, getD}
 use Rattle.paper.specs.Answer.{Answer, gives, refuses, andThen, pick, over}
 use Rattle.paper.specs.Coded.{Coded}
-use Rattle.field.specs.Field.{le, bytes}
+use Rattle.field.specs.Field.{le}
 use Rattle.varint.specs.Leb.{lebBytes}
 use Rattle.varint.specs.Number.{readI64}
 use Rattle.varint.specs.Zigzag.{zigzag, unzigzag}

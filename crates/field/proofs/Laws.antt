@@ -1,13 +1,12 @@
 -- Reading after writing, for every width.
 -- Assumes nothing.
-use mathlib.Core.Path.{_≡_, refl, sym, _∙_, ap}
-use mathlib.Core.List.{List, [], _∷_, _++_}
-use Prim.Native.Nat.{ℕ, zero, suc, _+_, _*_, _/_, _%_, _^_, _≤_, _<_}
-use native.Mathlib.Nat.{zero-add, add-zero}
+use mathlib.Core.Path.{_≡_, refl, sym, _∙_}
+use mathlib.Core.List.{List, _∷_, _++_}
+use Prim.Native.Nat.{ℕ, zero, suc, _+_, _*_, _/_, _%_, _^_, _<_}
 use native.Mathlib.Omega.{arith}
-use lib.ListN.{length, take, drop, getD}
-use lib.Seq.{getD-drop, drop-cons, drop-drop}
-use lib.Pow.{pow-add, shr-lt}
+use lib.ListN.{drop}
+use lib.Seq.{getD-drop}
+use lib.Pow.{shr-lt}
 use Rattle.field.specs.Field.{le, bytes}
 
 -- a field depends on the bytes from its place on, and no others

@@ -1,6 +1,6 @@
 -- Reading an interior cell: what the code's tests say of its definition.
 -- Assumes nothing.
-use mathlib.Core.Path.{_≡_, refl, sym, _∙_, ap}
+use mathlib.Core.Path.{_≡_, refl}
 use mathlib.Core.List.{List}
 use Prim.Native.Nat.{ℕ, _-_, _^_, _≤_, _<_}
 use native.Mathlib.Nat.{le-of-eq}
@@ -11,7 +11,7 @@ use lib.Seq.{take-all}
 use mir.Syntax.{w32}
 use mir.Val.{Fits}
 use borrow.Author.Needs.{needs}
-use Rattle.paper.specs.Answer.{Answer, gives, refuses, andThen}
+use Rattle.paper.specs.Answer.{Answer, andThen}
 use Rattle.paper.proofs.Coding.{is-place, is-refusal, is-number}
 use Rattle.varint.specs.Leb.{readFrom, taken}
 use Rattle.varint.specs.Zigzag.{unzigzag}
@@ -23,7 +23,6 @@ use Rattle.cell.proofs.Keys.{entry-unframed, entry-refused, entry-given}
 use Rattle.interior_page.specs.InteriorCells.{interiorBody, interiorFrom}
 use Rattle.interior_page.specs.Words.{Divides}
 use Rattle.interior_page.specs.Paper.{paperInterior}
-use Rattle.interior_page.specs.declared.InteriorCell.{InteriorCell}
 use Rattle.interior_page.specs.declared.DecodedInterior.the-variants as D
 
 -- ---- the body

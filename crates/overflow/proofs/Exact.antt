@@ -5,7 +5,6 @@ use Prim.Native.Nat.{ℕ}
 use lib.IntN.{ℤ}
 use Rattle.paper.specs.Answer.{Answer, gives, refuses}
 use Rattle.paper.proofs.Laws.{gives-one, gives-refuses, refuses-one}
-use Rattle.cell.specs.declared.Head.{Head}
 use Rattle.overflow.specs.Paged.{Paged, local, overflow}
 use Rattle.overflow.specs.Paper.{paperRef, paperPaged}
 use Rattle.overflow.specs.declared.DecodedRef.{DecodedRef}

@@ -11,7 +11,7 @@ use Rattle.paper.specs.Answer.{Answer, gives, refuses, andThen, pick}
 use Rattle.paper.proofs.Laws.{gives-one, gives-refuses, first, second}
 use Rattle.varint.specs.Leb.{readU64}
 use Rattle.cell.specs.Block.{Block}
-use Rattle.cell.specs.Entry.{bodyAt, entry, peekKind, peekRowid}
+use Rattle.cell.specs.Entry.{entry, peekKind, peekRowid}
 use Rattle.cell.specs.Keyed.{keyedAt, pageAt}
 use Rattle.cell.specs.Local.{localBody, cellFrom, headFrom}
 use Rattle.cell.specs.View.{Lawful}

@@ -1,6 +1,6 @@
 -- Reading a paged entry by its kind.
 -- Assumes nothing.
-use mathlib.Core.Path.{_≡_, refl, sym, _∙_, ap}
+use mathlib.Core.Path.{_≡_}
 use mathlib.Core.List.{List}
 use Prim.Native.Nat.{ℕ, _-_, _^_, _≤_, _<_}
 use native.Mathlib.Nat.{le-of-eq}
@@ -9,7 +9,7 @@ use lib.ListN.{length, take, drop, length-drop}
 use lib.Seq.{take-all}
 use borrow.Author.Needs.{needs}
 use borrow.Author.Tests.{eq-eqb, ne-eqb}
-use Rattle.paper.specs.Answer.{Answer, gives, refuses, andThen, pick}
+use Rattle.paper.specs.Answer.{Answer, andThen, pick}
 use Rattle.cell.specs.Entry.{peekKind}
 use Rattle.cell.specs.Local.{headFrom}
 use Rattle.cell.specs.Paper.{paperKind, paperHead}

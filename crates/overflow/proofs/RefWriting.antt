@@ -1,26 +1,25 @@
 -- Writing an overflow reference.
 -- Assumes nothing.
 use mathlib.Core.Path.{_≡_, refl, sym, _∙_, ap}
-use mathlib.Core.List.{List, [], _∷_, _++_, append-assoc}
-use Prim.Native.Nat.{ℕ, _+_, _-_, _^_, _≤_, _<_}
+use mathlib.Core.List.{List, _∷_, _++_, append-assoc}
+use Prim.Native.Nat.{ℕ, _+_, _-_, _≤_, _<_}
 use native.Mathlib.Omega.{arith}
 use lib.IntN.{ℤ}
 use lib.ListN.{length, take, drop, length-append}
 use mir.Syntax.{w64}
 use mir.Val.{Fits, SFits, ofZ, toZ}
 use mir.ValLaws.{toZ-ofZ}
-use borrow.Author.Needs.{needs}
 use borrow.Rule.Slice.PartMut.{putMid}
-use Rattle.paper.specs.Answer.{Answer, gives, refuses, pick, over, put, sizeOf}
+use Rattle.paper.specs.Answer.{over, put, sizeOf}
 use Rattle.field.specs.Field.{bytes}
 use Rattle.field.proofs.Storing.{length-bytes}
 use Rattle.varint.specs.Leb.{lebBytes}
 use Rattle.varint.specs.Paper.{paperWrote}
 use Rattle.varint.specs.Zigzag.{zigzag}
 use Rattle.varint.specs.declared.Wrote.the-variants as W
-use Rattle.cell.specs.Keyed.{keyOf, overAt, withLength, keyedBytes, fitted}
+use Rattle.cell.specs.Keyed.{keyOf, overAt, keyedBytes}
 use Rattle.cell.proofs.KeyWriting.{leb-most, short-length, short-size, short-output, whole-size, whole-output, key-length, page-after, id-is}
-use Rattle.cell.proofs.Placing.{then-over, over-then, length-over, placing}
+use Rattle.cell.proofs.Placing.{then-over, length-over, placing}
 use Rattle.overflow.specs.Reference.{referenceBytes, writeReference}
 use Rattle.overflow.specs.Words.{referenceWords}
 

@@ -1,6 +1,6 @@
 -- Reading an overflow reference: what the code's tests say of its definition.
 -- Assumes nothing.
-use mathlib.Core.Path.{_≡_, refl, sym, _∙_, ap}
+use mathlib.Core.Path.{_≡_, refl, _∙_}
 use mathlib.Core.List.{List}
 use Prim.Native.Nat.{ℕ, _+_, _-_, _^_, _≤_, _<_}
 use native.Mathlib.Nat.{le-of-eq}
@@ -11,9 +11,9 @@ use lib.Seq.{take-all}
 use mir.Syntax.{w32}
 use mir.Val.{Fits}
 use borrow.Author.Needs.{needs}
-use Rattle.paper.specs.Answer.{Answer, gives, refuses, andThen}
+use Rattle.paper.specs.Answer.{Answer, refuses, andThen}
 use Rattle.paper.proofs.Coding.{is-place, is-refusal, is-number}
-use Rattle.varint.specs.Leb.{readU64, readFrom, taken}
+use Rattle.varint.specs.Leb.{readFrom, taken}
 use Rattle.varint.specs.Scan.{FoundAt}
 use Rattle.varint.specs.Zigzag.{unzigzag}
 use Rattle.varint.proofs.Places.{at-short, at-long, at-value, at-inside}
@@ -25,7 +25,6 @@ use Rattle.cell.proofs.Keys.{entry-unframed, entry-refused, entry-given}
 use Rattle.overflow.specs.Reference.{referenceBody, referenceFrom}
 use Rattle.overflow.specs.Words.{Refers}
 use Rattle.overflow.specs.Paper.{paperRef}
-use Rattle.overflow.specs.declared.OverflowRef.{OverflowRef}
 use Rattle.overflow.specs.declared.DecodedRef.the-variants as D
 
 -- ---- the body

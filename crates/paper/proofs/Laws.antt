@@ -1,7 +1,6 @@
 -- Laws of the words that promises are written with.
 -- Assumes nothing.
-use mathlib.Core.Path.{_≡_, refl, sym, _∙_, ap}
-use mathlib.Core.Bool.{Bool, true, false}
+use mathlib.Core.Path.{_≡_, sym, _∙_}
 use mathlib.Core.List.{List, _++_}
 use Prim.Native.Nat.{ℕ, _≤_, _<_}
 use native.Mathlib.Omega.{arith}
@@ -9,7 +8,7 @@ use lib.Dec.{leb, ltb, eqb}
 use lib.ListN.{length, drop}
 use borrow.Author.Needs.{needs}
 use borrow.Author.Tests.{lt-ltb, le-ltb, le-leb, lt-leb, eq-eqb, ne-eqb}
-use Rattle.paper.specs.Answer.{Answer, gives, refuses, andThen, pick, kept, over, put, sizeOf}
+use Rattle.paper.specs.Answer.{Answer, gives, refuses, andThen, pick, over, put, sizeOf}
 
 -- ---- a promise that is an equation with a definition leaves one answer and one content
 

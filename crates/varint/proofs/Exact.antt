@@ -1,9 +1,6 @@
 -- `paper` loses nothing: equal papers, equal answers. So each promise leaves one answer.
 -- Assumes nothing.
-use mathlib.Core.Path.{_≡_, refl, sym, _∙_, ap}
-use Prim.Native.Nat.{ℕ}
-use lib.IntN.{ℤ}
-use Rattle.paper.specs.Answer.{Answer, gives, refuses}
+use mathlib.Core.Path.{_≡_, sym, ap}
 use Rattle.paper.proofs.Laws.{gives-one, gives-refuses, refuses-one, first, second}
 use Rattle.varint.specs.Paper.{paperU64, paperI64, paperWrote}
 use Rattle.varint.specs.declared.ReadU64.{ReadU64}

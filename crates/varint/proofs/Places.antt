@@ -1,9 +1,8 @@
 -- A number at a place, in two words, and the place behind it, in one: made by the code here, and used by callers.
 -- Assumes nothing.
-use mathlib.Core.Path.{_≡_, refl, sym, _∙_, ap}
+use mathlib.Core.Path.{_≡_, refl, sym, _∙_}
 use mathlib.Core.List.{List}
 use Prim.Native.Nat.{ℕ, _+_, _-_, _*_, _%_, _^_, _≤_, _<_}
-use native.Mathlib.Nat.{add-zero}
 use native.Mathlib.Omega.{arith}
 use lib.IntN.{ℤ}
 use lib.ListN.{length, take, drop, getD, length-drop}
@@ -18,7 +17,7 @@ use Rattle.varint.specs.Number.{readI64}
 use Rattle.varint.specs.Zigzag.{unzigzag}
 use Rattle.varint.specs.Paper.{paperU64}
 use Rattle.varint.specs.Scan.{Going, Found, FoundAt, scanned}
-use Rattle.varint.proofs.Laws.{Read, read-is}
+use Rattle.varint.proofs.Laws.{read-is}
 use Rattle.varint.proofs.Reading.{read-past, read-byte, going-second, scanned-at}
 
 -- ---- made

@@ -1,9 +1,8 @@
 -- The loop that reads a number: at each turn, what is left, resumed from here, is the answer.
 -- Assumes nothing.
 use mathlib.Core.Path.{_≡_, refl, sym, _∙_, ap}
-use mathlib.Core.Bool.{Bool, true, false}
 use mathlib.Core.List.{List, [], _∷_}
-use Prim.Native.Nat.{ℕ, zero, suc, _+_, _-_, _*_, _%_, _^_, _≤_, _<_}
+use Prim.Native.Nat.{ℕ, suc, _+_, _-_, _*_, _%_, _^_, _≤_, _<_}
 use native.Mathlib.Nat.{le-of-eq, mod-add-mod, add-mod-mod, mod-mod, add-assoc, zero-add, add-zero}
 use native.Mathlib.Numerals.{add-one}
 use native.Mathlib.Omega.{arith}
@@ -15,7 +14,6 @@ use Rattle.paper.specs.Answer.{Answer, gives, refuses, andThen, pick}
 use Rattle.varint.specs.Leb.{taken, sumFrom, readFrom, readU64}
 use Rattle.varint.specs.Paper.{paperU64}
 use Rattle.varint.specs.Scan.{Going, Found, scanned, resume}
-use Rattle.varint.specs.declared.ReadU64.{ReadU64}
 use Rattle.varint.specs.declared.ReadU64.the-variants as U
 
 resume-start : (a : Answer (List ℕ)) → resume 0 0 a ≡ andThen a (λ bs. gives (sumFrom 0 bs % 2 ^ 64, length bs))

@@ -1,11 +1,11 @@
 -- Signed numbers: the 64-bit pattern, ZigZag there and back, and the calls over them.
 -- Assumes nothing.
-use mathlib.Core.Path.{_≡_, refl, sym, _∙_, ap}
-use mathlib.Core.Bool.{Bool, true, false}
+use mathlib.Core.Path.{_≡_, refl}
+use mathlib.Core.Bool.{true, false}
 use mathlib.Core.List.{List}
-use Prim.Native.Nat.{ℕ, suc, zero-le, _+_, _-_, _*_, _/_, _%_, _^_, _≤_, _<_}
+use Prim.Native.Nat.{ℕ, suc, _+_, _-_, _/_, _%_, _^_, _≤_, _<_}
 use native.Mathlib.Omega.{arith}
-use lib.Dec.{T, ltb, eqb}
+use lib.Dec.{T, ltb}
 use lib.ListN.{length, take, drop, getD}
 use lib.IntN.{ℤ, pos, negsuc, natAbs}
 use lib.Signed.{ltZ, nonNeg}
@@ -13,8 +13,8 @@ use mir.Syntax.{w64}
 use mir.Val.{Fits, SFits, ofZ, toZ}
 use mir.ValLaws.{toZ-pos, toZ-neg, toZ-ofZ}
 use borrow.Author.Needs.{needs}
-use borrow.Author.Tests.{ltb-true, ltb-false, eq-eqb, ne-eqb}
-use Rattle.paper.specs.Answer.{Answer, gives, refuses, andThen, pick, put, sizeOf}
+use borrow.Author.Tests.{ltb-true, eq-eqb, ne-eqb}
+use Rattle.paper.specs.Answer.{Answer, andThen, pick, put, sizeOf}
 use Rattle.varint.specs.Leb.{readU64, lenU64, writeU64}
 use Rattle.varint.specs.Zigzag.{zigzag, unzigzag}
 use Rattle.varint.specs.Number.{readI64, lenI64, writeI64}

@@ -2,20 +2,19 @@
 -- Assumes nothing.
 use mathlib.Core.Path.{_≡_, refl, sym, _∙_, ap}
 use mathlib.Core.Bool.{Bool, true, false}
-use mathlib.Core.List.{List, [], _∷_, _++_, append-nil}
+use mathlib.Core.List.{List, [], _∷_, _++_}
 use Prim.Native.Nat.{ℕ, zero, suc, zero-le, suc-le-suc, _+_, _-_, _*_, _/_, _%_, _^_, _≤_, _<_}
-use native.Mathlib.Nat.{mod-eq-of-lt, le-of-suc-le-suc, not-suc-le-zero, lt-of-lt-of-le}
+use native.Mathlib.Nat.{mod-eq-of-lt, le-of-suc-le-suc, not-suc-le-zero}
 use native.Mathlib.Omega.{arith}
 use lib.Dec.{ltb}
-use lib.ListN.{length, take, drop, getD}
+use lib.ListN.{length, take, getD}
 use lib.Pow.{pow-add, pow-mono, shr-lt}
-use lib.Seq.{drop-append-seam}
 use borrow.Author.Tests.{lt-ltb, le-ltb, ltb-true, ltb-false}
 use Rattle.paper.specs.Answer.{Answer, gives, refuses, andThen, pick}
 use Rattle.paper.proofs.Laws.{gives-one, gives-refuses, first, second}
-use Rattle.varint.specs.Leb.{taken, sumFrom, readFrom, readU64, groups, lebBytes, lenU64}
+use Rattle.varint.specs.Leb.{taken, sumFrom, readFrom, groups, lebBytes, lenU64}
 use Rattle.varint.specs.Standard.{Leb128, last, more, Bytes}
-use Rattle.varint.proofs.Laws.{Read, read-is, taken-is}
+use Rattle.varint.proofs.Laws.{taken-is}
 use Rattle.varint.proofs.Limits.{groups-last, groups-more, groups-most}
 
 -- ---- reading: every sequence of at most ten bytes is accepted, whatever stands behind it, and read modulo 2 ^ 64

@@ -2,20 +2,19 @@
 -- Assumes nothing.
 use mathlib.Core.Path.{_≡_, refl, sym, _∙_, ap}
 use mathlib.Core.List.{List, [], _∷_, _++_}
-use Prim.Native.Nat.{ℕ, zero, suc, _+_, _-_, _*_, _/_, _%_, _^_, _≤_, _<_}
+use Prim.Native.Nat.{ℕ, suc, _+_, _-_, _*_, _/_, _%_, _^_, _≤_, _<_}
 use native.Mathlib.Nat.{zero-add, le-trans}
 use native.Mathlib.Numerals.{add-one}
 use native.Mathlib.Omega.{arith}
 use lib.Arith.{lt-of-le-ne}
 use lib.ListN.{length, drop, set, length-set}
-use lib.Pow.{pow-mono, shr-lt}
+use lib.Pow.{shr-lt}
 use lib.Seq.{sets, sets-eq}
 use borrow.Author.Needs.{needs}
 use borrow.Author.Tests.{le-ltb, lt-ltb}
-use Rattle.paper.specs.Answer.{Answer, gives, refuses, pick, put, over, sizeOf}
+use Rattle.paper.specs.Answer.{pick, put, over, sizeOf}
 use Rattle.varint.specs.Leb.{groups, lebBytes, lenU64, writeU64}
 use Rattle.varint.specs.Paper.{paperWrote}
-use Rattle.varint.specs.declared.Wrote.{Wrote}
 use Rattle.varint.specs.declared.Wrote.the-variants as W
 use Rattle.varint.proofs.Limits.{groups-last, groups-more, groups-some, groups-most}
 

@@ -1,20 +1,20 @@
 -- ZigZag against the Protocol Buffers encoding page: "positive integers p are encoded as 2 * p, negative integers n as 2 * |n| - 1";
 -- a bijection between the signed and the unsigned 64-bit numbers.
 -- Assumes nothing.
-use mathlib.Core.Path.{_≡_, refl, sym, _∙_, ap}
+use mathlib.Core.Path.{_≡_, refl, sym}
 use mathlib.Core.Bool.{Bool, true, false}
 use mathlib.Core.List.{List, _++_}
-use Prim.Native.Nat.{ℕ, suc, _+_, _-_, _*_, _/_, _%_, _^_, _<_}
+use Prim.Native.Nat.{ℕ, suc, _+_, _*_, _/_, _%_, _^_, _<_}
 use native.Mathlib.Omega.{arith}
 use lib.Dec.{eqb}
 use lib.IntN.{ℤ, pos, negsuc, negℤ, negℤ-negℤ, _*ℤ_, _-ℤ_, -ℤ-one}
-use lib.ListN.{length, drop}
+use lib.ListN.{length}
 use lib.Seq.{drop-append-seam}
 use mir.Syntax.{w64}
 use mir.Val.{SFits}
 use borrow.Author.Tests.{eq-eqb, ne-eqb, eqb-true, eqb-false}
 use Rattle.paper.specs.Answer.{gives, andThen, pick}
-use Rattle.varint.specs.Leb.{readFrom, readU64, lebBytes}
+use Rattle.varint.specs.Leb.{readU64, lebBytes}
 use Rattle.varint.specs.Number.{readI64, lenI64}
 use Rattle.varint.specs.Zigzag.{zigzag, unzigzag}
 use Rattle.varint.proofs.Standard.{written-read}
