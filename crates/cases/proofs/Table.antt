@@ -15,6 +15,9 @@ use Rattle.cell.specs.Block.{blockOf, block, isNull, bitmapBytes, columns}
 use Rattle.cell.specs.Local.{blocksAt, rowOf, localBody, cellFrom, headFrom, moved, nth, valueFrom, valueAt}
 use Rattle.cell.specs.ValueList.{item, items, wordsOf, valueList}
 use Rattle.cell.specs.Written.{blockBytes, blocksBytes, nullBit, nullBits, bitmap, bodyBytes, entryBytes, encoded, writeCell}
+use Rattle.cell.specs.Keyed.{keyedAt, pageAt, withLength, keyedBytes, fitted}
+use Rattle.overflow.specs.Reference.{referenceBody, referenceFrom, referenceBytes, writeReference}
+use Rattle.interior_page.specs.InteriorCells.{interiorBody, interiorFrom, interiorBytes, writeInterior}
 use Rattle.cases.specs.Question.{Row, says, inNumbers, eights}
 use Rattle.cases.specs.Rows.{rows}
 
@@ -27,5 +30,5 @@ answers [] = []
 answers (r ∷ rs) = r .answer ∷ answers rs
 
 pub every-row : said rows ≡ answers rows
-unfolding rows says andThen pick taken sumFrom readFrom readU64 groups lebBytes writeU64 zigzag unzigzag readI64 inNumbers eights bytes table inside begun after whole completes wellFormed checkText checkAt framed entry blockOf block isNull bitmapBytes columns blocksAt rowOf localBody cellFrom headFrom moved nth valueFrom valueAt item items wordsOf valueList blockBytes blocksBytes nullBit nullBits bitmap bodyBytes entryBytes encoded writeCell
+unfolding rows says andThen pick taken sumFrom readFrom readU64 groups lebBytes writeU64 zigzag unzigzag readI64 inNumbers eights bytes table inside begun after whole completes wellFormed checkText checkAt framed entry blockOf block isNull bitmapBytes columns blocksAt rowOf localBody cellFrom headFrom moved nth valueFrom valueAt item items wordsOf valueList blockBytes blocksBytes nullBit nullBits bitmap bodyBytes entryBytes encoded writeCell keyedAt pageAt withLength keyedBytes fitted referenceBody referenceFrom referenceBytes writeReference interiorBody interiorFrom interiorBytes writeInterior
 every-row = refl

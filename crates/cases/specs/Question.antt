@@ -12,6 +12,8 @@ use Rattle.varint.specs.Zigzag.{zigzag, unzigzag}
 use Rattle.cell.specs.Block.{Block, null, integer, real, bool, text, vector}
 use Rattle.cell.specs.Local.{headFrom, valueAt}
 use Rattle.cell.specs.Written.{writeCell}
+use Rattle.overflow.specs.Reference.{referenceFrom, writeReference}
+use Rattle.interior_page.specs.InteriorCells.{interiorFrom, writeInterior}
 
 pub data Question : Type 0 where
   -- the number at the start of these bytes, and how many it takes
@@ -27,6 +29,12 @@ pub data Question : Type 0 where
   cell-value : List ℕ → ℕ → Question
   -- the bytes of the local entry of a value list, in an output of 32: rowid, kinds, words, data
   write-cell : ℤ → List ℕ → List ℕ → List ℕ → Question
+  -- the overflow reference at the start of these bytes: the rowid's pattern, total, first page, bytes; and written, in an output of 32
+  reference : List ℕ → Question
+  write-reference : ℤ → ℕ → ℕ → Question
+  -- the interior cell at the start of these bytes: the divider's pattern, child, bytes; and written, in an output of 32
+  divider : List ℕ → Question
+  write-divider : ℤ → ℕ → Question
 
 -- a value in numbers: its tag, or 255 for a null; its word; the place of a text's or a vector's bytes
 unfoldable pub inNumbers : Block → List ℕ
@@ -50,6 +58,10 @@ says (zigzag-decode u) = gives (ofZ w64 (unzigzag u) ∷ [])
 says (cell-head s) = andThen (headFrom s) (λ (rowid, columns, n). gives (ofZ w64 rowid ∷ columns ∷ n ∷ []))
 says (cell-value s column) = andThen (valueAt s 0 column) (λ v. gives (inNumbers v))
 says (write-cell rowid kinds words rest) = writeCell rowid kinds (eights words) rest 32
+says (reference s) = andThen (referenceFrom s) (λ (r, n). gives (ofZ w64 (r .0) ∷ r .1 ∷ r .2 ∷ n ∷ []))
+says (write-reference rowid total page) = writeReference rowid total page 32
+says (divider s) = andThen (interiorFrom s) (λ (c, n). gives (ofZ w64 (c .0) ∷ c .1 ∷ n ∷ []))
+says (write-divider rowid child) = writeInterior rowid child 32
 
 -- one row of the table
 pub record Row : Type 0 where

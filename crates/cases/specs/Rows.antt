@@ -3,7 +3,7 @@ use Prim.Native.Nat.{ℕ, _-_, _^_}
 use mathlib.Core.List.{List, [], _∷_}
 use lib.IntN.{ℤ, pos, negℤ}
 use Rattle.paper.specs.Answer.{gives, refuses}
-use Rattle.cases.specs.Question.{Row, _⇒_, read-u64, write-u64, zigzag-encode, zigzag-decode, cell-head, cell-value, write-cell}
+use Rattle.cases.specs.Question.{Row, _⇒_, read-u64, write-u64, zigzag-encode, zigzag-decode, cell-head, cell-value, write-cell, reference, write-reference, divider, write-divider}
 
 abbrev minus : ℕ → ℤ
 minus n = negℤ (pos n)
@@ -50,4 +50,10 @@ rows =
     ∷ (cell-value entry 3 ⇒ gives (3 ∷ 1 ∷ 0 ∷ []))
     ∷ (cell-value entry 4 ⇒ refuses 12)
     ∷ (write-cell (pos 1) (0 ∷ 255 ∷ 2 ∷ 3 ∷ []) (5 ∷ 0 ∷ 1 ∷ 1 ∷ []) (0x41 ∷ []) ⇒ gives entry)
+    -- rowid 7, total 5,000, page 9: 08 02 0E 88 27 09 00 00 00
+    ∷ (reference (0x08 ∷ 0x02 ∷ 0x0E ∷ 0x88 ∷ 0x27 ∷ 0x09 ∷ 0x00 ∷ 0x00 ∷ 0x00 ∷ []) ⇒ gives (7 ∷ 5_000 ∷ 9 ∷ 9 ∷ []))
+    ∷ (write-reference (pos 7) 5_000 9 ⇒ gives (0x08 ∷ 0x02 ∷ 0x0E ∷ 0x88 ∷ 0x27 ∷ 0x09 ∷ 0x00 ∷ 0x00 ∷ 0x00 ∷ []))
+    -- divider 10, child 3: 06 03 14 03 00 00 00
+    ∷ (divider (0x06 ∷ 0x03 ∷ 0x14 ∷ 0x03 ∷ 0x00 ∷ 0x00 ∷ 0x00 ∷ []) ⇒ gives (10 ∷ 3 ∷ 7 ∷ []))
+    ∷ (write-divider (pos 10) 3 ⇒ gives (0x06 ∷ 0x03 ∷ 0x14 ∷ 0x03 ∷ 0x00 ∷ 0x00 ∷ 0x00 ∷ []))
     ∷ []

@@ -1,26 +1,27 @@
 // Cells: a line for each call of cell.
 use crate::print;
 use cell::Decoded;
+use cell::Head;
 use cell::value::Asked;
 use cell::value::Value;
-use varint::Wrote;
 
 pub fn read(bytes: &[u8]) {
     print::text(b"entry");
     print::bytes(bytes);
     print::text(b":");
     match cell::decode(bytes, 0) {
-        Decoded::Head(head) => {
-            print::text(b" rowid ");
-            print::signed(head.rowid);
-            print::text(b", columns ");
-            print::number(head.columns as u64);
-            print::text(b", bytes taken ");
-            print::number(head.bytes as u64);
-        }
+        Decoded::Head(head) => shown_head(head),
         Decoded::Refused(number) => print::refused(number),
     }
     print::end();
+}
+
+pub fn shown_head(head: Head) {
+    print::text(b" rowid ");
+    print::signed(head.rowid);
+    print::text(b", columns ");
+    print::number(head.columns as u64);
+    print::taken(head.bytes);
 }
 
 pub fn column(bytes: &[u8], column: usize) {
@@ -70,14 +71,5 @@ pub fn write(rowid: i64, kinds: &[u8], words: &[u8], bytes: &[u8]) {
     let mut out = [0u8; 32];
     let wrote = cell::encode::encode(rowid, kinds, words, bytes, &mut out);
     print::text(b"write entry");
-    written(wrote, &out);
-}
-
-fn written(wrote: Wrote, out: &[u8; 32]) {
-    print::text(b":");
-    match wrote {
-        Wrote::Bytes(bytes) => print::front(out, bytes),
-        Wrote::Refused(number) => print::refused(number),
-    }
-    print::end();
+    print::written(wrote, &out);
 }

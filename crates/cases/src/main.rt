@@ -2,8 +2,10 @@
 // has the lines that are right. What the document marks with a star is proved besides, of the definitions: specs/Rows.antt.
 // Each layer has a module of its own, and its lines here.
 mod cells;
+mod dividers;
 mod numbers;
 mod print;
+mod references;
 mod texts;
 
 fn main() {
@@ -12,6 +14,9 @@ fn main() {
     limits();
     text();
     entry();
+    reference();
+    paged();
+    divider();
 }
 
 fn unsigned() {
@@ -83,4 +88,37 @@ fn entry() {
     cells::write(1, b"\x00\xFF\x02\x03", &words, b"A");
     cells::write(1, b"\x05", b"\x00\x00\x00\x00\x00\x00\x00\x00", b"");
     cells::write(1, b"\x03", b"\x02\x00\x00\x00\x00\x00\x00\x00", b"");
+}
+
+// Rowid 7, total 5,000, page 9; and its neighbours: another kind, an empty body, no bytes of the total, one byte of the page missing, one
+// too many. The largest one takes 26 bytes, and an output of 25 is refused.
+fn reference() {
+    references::read(b"\x08\x02\x0E\x88\x27\x09\x00\x00\x00");
+    references::read(b"\x08\x01\x0E\x88\x27\x09\x00\x00\x00");
+    references::read(b"\x00");
+    references::read(b"\x02\x02\x0E");
+    references::read(b"\x07\x02\x0E\x88\x27\x09\x00\x00\x00");
+    references::read(b"\x09\x02\x0E\x88\x27\x09\x00\x00\x00\x00");
+    references::write(7, 5000, 9);
+    references::write(i64::MIN, u64::MAX, u32::MAX);
+    references::write_to_25(i64::MIN, u64::MAX, u32::MAX);
+}
+
+// The kind byte decides: a cell, a reference, a divider, and no kind byte.
+fn paged() {
+    references::read_paged(b"\x0B\x01\x02\x04\x02\x00\x0A\x02\x01\x41\x03\x01");
+    references::read_paged(b"\x08\x02\x0E\x88\x27\x09\x00\x00\x00");
+    references::read_paged(b"\x06\x03\x14\x03\x00\x00\x00");
+    references::read_paged(b"\x06");
+}
+
+// Divider 10, child 3; and its neighbours, as for references. The largest one takes 16 bytes, and an output of 15 is refused.
+fn divider() {
+    dividers::read(b"\x06\x03\x14\x03\x00\x00\x00");
+    dividers::read(b"\x06\x02\x14\x03\x00\x00\x00");
+    dividers::read(b"\x05\x03\x14\x03\x00\x00\x00");
+    dividers::read(b"\x07\x03\x14\x03\x00\x00\x00\x00");
+    dividers::write(10, 3);
+    dividers::write(i64::MIN, u32::MAX);
+    dividers::write_to_15(i64::MIN, u32::MAX);
 }

@@ -12,7 +12,7 @@ pub fn read(bytes: &[u8]) {
         ReadU64::Value(value, bytes) => {
             print::text(b" ");
             print::number(value);
-            taken(bytes);
+            print::taken(bytes);
         }
         ReadU64::Refused(number) => print::refused(number),
     }
@@ -27,16 +27,11 @@ pub fn read_signed(bytes: &[u8]) {
         ReadI64::Value(value, bytes) => {
             print::text(b" ");
             print::signed(value);
-            taken(bytes);
+            print::taken(bytes);
         }
         ReadI64::Refused(number) => print::refused(number),
     }
     print::end();
-}
-
-fn taken(bytes: usize) {
-    print::text(b", bytes taken ");
-    print::number(bytes as u64);
 }
 
 pub fn write(value: u64) {
@@ -44,7 +39,7 @@ pub fn write(value: u64) {
     let wrote = varint::write_u64(&mut out, value);
     print::text(b"write ");
     print::number(value);
-    written(wrote, &out);
+    print::written(wrote, &out);
 }
 
 pub fn write_signed(value: i64) {
@@ -52,17 +47,7 @@ pub fn write_signed(value: i64) {
     let wrote = varint::write_i64(&mut out, value);
     print::text(b"write signed ");
     print::signed(value);
-    written(wrote, &out);
-}
-
-// An output is lent as an array here: as a slice its length would be asked for after the call that wrote.
-fn written(wrote: Wrote, out: &[u8; 10]) {
-    print::text(b":");
-    match wrote {
-        Wrote::Bytes(bytes) => print::front(out, bytes),
-        Wrote::Refused(number) => print::refused(number),
-    }
-    print::end();
+    print::written(wrote, &out);
 }
 
 // The same to an output of one byte, EE, with that byte after the call.

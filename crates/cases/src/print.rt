@@ -1,5 +1,6 @@
 // Pieces of a line.
 use libc::STDOUT_FILENO;
+use varint::Wrote;
 
 pub fn text(s: &[u8]) {
     io::write_all(STDOUT_FILENO, s);
@@ -45,6 +46,21 @@ pub fn front(s: &[u8], n: usize) {
 pub fn refused(refusal: u8) {
     text(b" refused ");
     number(refusal as u64);
+}
+
+pub fn taken(bytes: usize) {
+    text(b", bytes taken ");
+    number(bytes as u64);
+}
+
+// The rest of a line that tells what was written to the start of `out`.
+pub fn written(wrote: Wrote, out: &[u8]) {
+    text(b":");
+    match wrote {
+        Wrote::Bytes(bytes) => front(out, bytes),
+        Wrote::Refused(number) => refused(number),
+    }
+    end();
 }
 
 pub fn end() {
