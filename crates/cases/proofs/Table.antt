@@ -4,7 +4,7 @@ use mathlib.Core.Path.{_≡_, refl}
 use mathlib.Core.List.{List, [], _∷_}
 use Prim.Native.Nat.{ℕ}
 use Rattle.paper.specs.Answer.{Answer, andThen, pick}
-use Rattle.varint.specs.Leb.{taken, sumFrom, readFrom, readU64, groups, lebBytes, lenU64, writeU64}
+use Rattle.varint.specs.Leb.{taken, sumFrom, readFrom, readU64, groups, lebBytes, writeU64}
 use Rattle.varint.specs.Zigzag.{zigzag, unzigzag}
 use Rattle.varint.specs.Number.{readI64}
 use Rattle.field.specs.Field.{bytes}

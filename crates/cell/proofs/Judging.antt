@@ -25,7 +25,6 @@ use Rattle.cell.specs.Content.{Content, letters}
 use Rattle.cell.specs.Written.{blockBytes}
 use Rattle.cell.specs.ValueList.{item}
 use Rattle.cell.specs.Listing.{used, held, blockLen, judged, Judged}
-use Rattle.cell.proofs.Numbers.{leb-byte}
 use Rattle.cell.proofs.BlockWriting.{blocks, held-none}
 
 -- ---- lengths
@@ -34,9 +33,6 @@ unfolding lebBytes
 leb-most v = groups-most 10 v
 
 module _ (value : ℕ) where
-  pub len-byte : value < 128 → 1 ≡ length (lebBytes value)
-  len-byte h = rw (leb-byte value h)
-
   pub len-is : {r : ℕ} → r ≡ lenU64 value → r ≡ length (lebBytes value)
   len-is e = e
 
@@ -175,7 +171,6 @@ module _ (kind word from : ℕ) (s : List ℕ) where
 
 pub ruleset judging = (
   blocks,
-  len-byte,
   len-is,
   len-most,
   len-none,

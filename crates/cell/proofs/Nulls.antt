@@ -3,7 +3,7 @@
 use mathlib.Core.Path.{_≡_, refl, sym, _∙_, ap}
 use mathlib.Core.Bool.{Bool, true, false}
 use mathlib.Core.List.{List, [], _∷_}
-use Prim.Native.Nat.{ℕ, zero, suc, _+_, _-_, _*_, _/_, _^_, _≤_, _<_}
+use Prim.Native.Nat.{ℕ, zero, suc, _+_, _-_, _*_, _^_, _≤_, _<_}
 use native.Mathlib.Nat.{pow-suc}
 use native.Mathlib.Omega.{arith}
 use lib.Dec.{eqb}
@@ -108,10 +108,6 @@ map-at (suc n) (suc b) kinds h =
     let e : 8 * suc b ≡ 8 + 8 * b = omega arith in
     rw (e, ← drop-drop (8 * b) 8 kinds) (map-at n b (drop 8 kinds) (omega arith))
 
-pub bitmap-size : {r : ℕ} (columns : ℕ) → r ≡ (columns + 7) / 8 → r ≡ bitmapBytes columns
-unfolding bitmapBytes
-bitmap-size columns e = e
-
 -- the loop over its bytes
 pub record Mapping (out₀ kinds : List ℕ) (size : ℕ) (out : List ℕ) (b : ℕ) : Type 0 where
   pub sized : size ≡ bitmapBytes (length kinds)
@@ -151,7 +147,6 @@ pub ruleset nulls = (
   nulls-more,
   byte-last,
   byte-whole,
-  bitmap-size,
   mapping-start,
   mapping-done,
   mapping-from,

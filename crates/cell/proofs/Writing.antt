@@ -71,7 +71,7 @@ module _ (id : ℕ) (kinds words rest : List ℕ) where
                 by (refuses k) f g = record { refused = λ _. list-is ∙ f ∙ ap refuses (refuses-one (sym g)); good = λ y. absurd (z y) }
 
             module _ {r n : ℕ} (j : judged r n ≡ blocksLen (items kinds (wordList words) rest)) (m : n ≤ 11 * 65536 + 16777216) (z : r ≡ 0) where
-              pub list-good : {p q o : ℕ} → p ≡ length (lebBytes id) → p ≤ 10 → q ≡ length (lebBytes (length kinds)) → q ≤ 10 → o ≡ bitmapBytes (length kinds) → o ≤ 8192
+              pub list-good : {p q o : ℕ} → p ≡ length (lebBytes id) → p ≤ 10 → q ≡ length (lebBytes (length kinds)) → q ≤ 10 → o ≡ bitmapBytes (length kinds) → o ≤ length kinds
                   → Measures id kinds words rest 0 (1 + (p + q) + (o + n))
               unfolding judged pick blocksLen
               list-good {p} {q} {o} ep lp eq lq eo lo = by (items kinds (wordList words) rest) refl (rw (eq-eqb r 0 z) at j)

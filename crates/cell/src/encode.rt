@@ -15,8 +15,8 @@ ghost use Rattle.cell.specs.Written.{blockBytes, blocksBytes, encoded, w
 ghost use Rattle.cell.specs.ValueList.{items};
 ghost use Rattle.utf8.specs.WellFormed.{checkText};
 ghost use Rattle.cell.specs.Listing.{wordList, used, held, payload, blockLen, usedAll, heldAll, kindBit, kindBits, kindMap, judged, Judged, blocksLen, headOf, columnsOf, bodyOf, bodySize, Good, Measures};
-
-const KIND_LOCAL: u8 = 1;
+use crate::KIND_LOCAL;
+use crate::inner::bitmap_bytes;
 
 // The value tags, which are the kinds of a value list; a null's kind is 255, and 5 stands for a `Value::Null` inside a value.
 const INTEGER: u8 = 0;
@@ -74,13 +74,10 @@ fn zigzag_bits(bits: u64) -> u64
 
 // ---- the first reading: each column is judged and measured
 
-// The bytes of a varint; one is the common case.
+// The bytes of a varint, with their bound.
 fn varint_len(value: u64) -> usize
     ensures { λ r. ⌜ (r ≡ length (lebBytes value)) × (r ≤ 10) ⌝ }
 {
-    if value < 128 {
-        return 1;
-    }
     varint::u64_len(value)
 }
 
@@ -366,13 +363,6 @@ fn null_byte(kinds: &[u8], b: usize) -> u8
     }
     let to = from + 8;
     null_bits(&kinds[from..to])
-}
-
-fn bitmap_bytes(columns: usize) -> usize
-    requires { ⌜ columns ≤ 65536 ⌝ }
-    ensures { λ r. ⌜ (r ≡ bitmapBytes columns) × (r ≤ 8192) ⌝ }
-{
-    (columns + 7) / 8
 }
 
 fn put_bitmap(out: &mut [u8], kinds: &[u8]) -> usize

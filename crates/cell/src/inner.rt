@@ -1,12 +1,15 @@
 // The walk over an entry. It is the page check's inner loop, so its steps answer in machine words (see `paper::inner`).
+pub mod keyed;
+
 ghost use mathlib.Core.Path.{_≡_};
 ghost use Prim.Native.Nat.{_+_, _/_, _-_, _^_, _≤_, _<_};
 ghost use lib.ListN.{length};
 ghost use Rattle.paper.specs.Coded.{Coded};
 ghost use Rattle.cell.specs.Block.{isNull, bitmapBytes};
 ghost use Rattle.cell.specs.Words.{fixedEnd, textEnd, vectorEnd, blockEnd, columnEnd, columnsEnd, bodyEnd, RowidAt, Frame, Locally};
+use crate::KIND_LOCAL;
 use paper::inner::refusal;
-use varint::inner::wide;
+use paper::inner::wide;
 
 // Words from here on are refusals.
 pub const NO_PLACE: usize = 0x8000_0000_0000_0000;
@@ -122,7 +125,7 @@ pub fn walk(body: &[u8], map: usize, start: usize, columns: usize) -> usize
 
 // Eight columns to a byte.
 pub fn bitmap_bytes(columns: usize) -> usize
-    ensures { λ r. ⌜ r ≡ bitmapBytes columns ⌝ }
+    ensures { λ r. ⌜ (r ≡ bitmapBytes columns) × (r ≤ columns) ⌝ }
 {
     columns / 8 + (columns % 8 + 7) / 8
 }
@@ -196,7 +199,7 @@ pub fn local_body(body: &[u8]) -> Local
         return refused(4);
     }
     let kind = body[0];
-    if kind != 1 {
+    if kind != KIND_LOCAL {
         return refused(5);
     }
     let rowid = varint::inner::value_at(body, 1);

@@ -1,16 +1,10 @@
 // Fields at the start of a part of a slice. The sums of products become one load, the divisions one store.
 ghost use mathlib.Core.Path.{_≡_};
-ghost use Prim.Native.Nat.{_+_, _*_, _≤_, _<_};
+ghost use Prim.Native.Nat.{_+_, _*_, _≤_};
 ghost use mathlib.Core.List.{_++_};
 ghost use lib.ListN.{length, drop};
 ghost use Rattle.field.specs.Field.{le, bytes};
-
-// A byte as a wider number, with its bound.
-pub fn wide(x: u8) -> u64
-    ensures { λ r. ⌜ (r ≡ x) × (r < 256) ⌝ }
-{
-    x as u64
-}
+use paper::inner::wide;
 
 pub fn u32_at(s: &[u8]) -> u32
     requires { ⌜ 4 ≤ length (now s) ⌝ }

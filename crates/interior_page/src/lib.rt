@@ -33,7 +33,7 @@ struct DividerWords {
 fn divider_body(body: &[u8]) -> DividerWords
     ensures { λ r. ⌜ Divides (now (body .entry)) (r .divider) (r .child) ⌝ }
 {
-    let key = cell::keyed::key_of(body, cell::KIND_INTERIOR);
+    let key = cell::inner::keyed::key_of(body, cell::KIND_INTERIOR);
     let at = key.at;
     if NO_PLACE <= at {
         return DividerWords {
@@ -41,7 +41,7 @@ fn divider_body(body: &[u8]) -> DividerWords
             child: at,
         };
     }
-    let child = cell::keyed::page_at(body, at);
+    let child = cell::inner::keyed::page_at(body, at);
     DividerWords {
         divider: key.rowid,
         child,
@@ -85,8 +85,8 @@ fn put_divider(out: &mut [u8], size: usize, divider: u64, child: u32)
     requires { ⌜ (size < 128) × (6 + length (lebBytes divider) ≤ length (now out)) ⌝ }
     ensures { λ _. ⌜ now (out .exit) ≡ over (now (out .entry)) (dividerWords size divider child) ⌝ }
 {
-    let at = cell::keyed::put_key(out, size, cell::KIND_INTERIOR, divider);
-    cell::keyed::put_page(out, at, child)
+    let at = cell::inner::keyed::put_key(out, size, cell::KIND_INTERIOR, divider);
+    cell::inner::keyed::put_page(out, at, child)
 }
 
 // Writes the interior cell; at most 16 bytes. An output that is too short is refused and keeps every byte.

@@ -55,7 +55,7 @@ fn no_reference(word: usize) -> RefWords
 fn reference_body(body: &[u8]) -> RefWords
     ensures { λ r. ⌜ Refers (now (body .entry)) (r .rowid) (r .total) (r .page) ⌝ }
 {
-    let key = cell::keyed::key_of(body, cell::KIND_OVERFLOW);
+    let key = cell::inner::keyed::key_of(body, cell::KIND_OVERFLOW);
     let at = key.at;
     if NO_PLACE <= at {
         return no_reference(at);
@@ -67,7 +67,7 @@ fn reference_body(body: &[u8]) -> RefWords
     if 10 < total.taken {
         return no_reference(refusal(2));
     }
-    let page = cell::keyed::page_at(body, at + total.taken);
+    let page = cell::inner::keyed::page_at(body, at + total.taken);
     RefWords {
         rowid: key.rowid,
         total: total.value,
@@ -166,10 +166,10 @@ pub fn decode_paged(buf: &[u8], pos: usize) -> PagedEntry
     let peeked = cell::peek_kind(buf, pos);
     match peeked {
         PeekedKind::Kind(kind) => {
-            if kind == 1 {
+            if kind == cell::KIND_LOCAL {
                 return as_local(buf, pos);
             }
-            if kind == 2 {
+            if kind == cell::KIND_OVERFLOW {
                 return as_reference(buf, pos);
             }
             PagedEntry::Refused(5)
@@ -184,7 +184,7 @@ fn put_total(out: &mut [u8], size: usize, rowid: u64, total: u64) -> usize
     ensures { λ r. ⌜ r ≡ 2 + length (lebBytes rowid) + length (lebBytes total) ⌝ }
     ensures { λ _. ⌜ now (out .exit) ≡ over (now (out .entry)) (keyOf size 2 rowid ++ lebBytes total) ⌝ }
 {
-    let at = cell::keyed::put_key(out, size, cell::KIND_OVERFLOW, rowid);
+    let at = cell::inner::keyed::put_key(out, size, cell::KIND_OVERFLOW, rowid);
     at + varint::inner::put_u64(&mut out[at..], total)
 }
 
@@ -193,7 +193,7 @@ fn put_reference(out: &mut [u8], size: usize, rowid: u64, total: u64, page: u32)
     ensures { λ _. ⌜ now (out .exit) ≡ over (now (out .entry)) (referenceWords size rowid total page) ⌝ }
 {
     let end = put_total(out, size, rowid, total);
-    cell::keyed::put_page(out, end, page)
+    cell::inner::keyed::put_page(out, end, page)
 }
 
 // Writes the reference; at most 26 bytes. An output that is too short is refused and keeps every byte.

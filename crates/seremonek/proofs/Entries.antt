@@ -10,7 +10,7 @@ use mir.Syntax.{w64}
 use mir.Val.{SFits, ofZ, toZ}
 use mir.ValLaws.{toZ-ofZ}
 use borrow.Author.Needs.{needs}
-use Rattle.paper.specs.Answer.{Answer, gives, refuses, pick, put, sizeOf}
+use Rattle.paper.specs.Answer.{Answer, pick, put, sizeOf}
 use Rattle.cell.specs.Paper.{paperKind, paperRowid, paperSize, paperHead}
 use Rattle.cell.specs.declared.Head.{Head}
 use Rattle.cell.specs.declared.Decoded.{Decoded}

@@ -8,7 +8,7 @@ use mir.Syntax.{w64}
 use mir.Val.{SFits, ofZ, toZ}
 use mir.ValLaws.{toZ-ofZ}
 use borrow.Author.Needs.{needs}
-use Rattle.paper.specs.Answer.{Answer, gives, refuses}
+use Rattle.paper.specs.Answer.{Answer}
 use Rattle.interior_page.specs.Paper.{paperInterior}
 use Rattle.interior_page.specs.declared.InteriorCell.{InteriorCell}
 use Rattle.interior_page.specs.declared.DecodedInterior.{DecodedInterior}

@@ -8,7 +8,7 @@ use mir.Syntax.{w64}
 use mir.Val.{SFits, ofZ, toZ}
 use mir.ValLaws.{toZ-ofZ}
 use borrow.Author.Needs.{needs}
-use Rattle.paper.specs.Answer.{Answer, gives, refuses, put, sizeOf}
+use Rattle.paper.specs.Answer.{Answer, gives, refuses, sizeOf}
 use Rattle.varint.specs.Paper.{paperU64, paperI64, paperWrote}
 use Rattle.varint.specs.declared.ReadU64.{ReadU64}
 use Rattle.varint.specs.declared.ReadU64.the-variants as U

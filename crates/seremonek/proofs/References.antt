@@ -8,7 +8,7 @@ use mir.Syntax.{w64}
 use mir.Val.{SFits, ofZ, toZ}
 use mir.ValLaws.{toZ-ofZ}
 use borrow.Author.Needs.{needs}
-use Rattle.paper.specs.Answer.{Answer, gives, refuses}
+use Rattle.paper.specs.Answer.{Answer}
 use Rattle.cell.specs.declared.Head.{Head}
 use Rattle.overflow.specs.Paged.{Paged}
 use Rattle.overflow.specs.Paper.{paperRef, paperPaged}

@@ -1,6 +1,6 @@
 -- The number and the answer array of a call, from what the call under it gives or refuses.
 -- Assumes nothing.
-use mathlib.Core.Path.{_≡_, refl, sym, _∙_, ap}
+use mathlib.Core.Path.{_≡_}
 use mathlib.Core.List.{List}
 use Prim.Native.Nat.{ℕ}
 use Rattle.paper.specs.Answer.{Answer, gives, refuses}

@@ -15,9 +15,10 @@ use lib.Seq.{getD-drop, drop-drop, drop-cons, take-all}
 use mir.Syntax.{w8}
 use mir.Val.{Fits}
 use Rattle.paper.specs.Answer.{pick}
+use Rattle.field.specs.Field.{le}
 use Rattle.utf8.specs.Table.{_‥_, Row, table}
 use Rattle.utf8.specs.WellFormed.{begun, after, completes, whole, wellFormed}
-use Rattle.utf8.specs.Ascii.{wordFrom, word8, Ascii, Passed}
+use Rattle.utf8.specs.Ascii.{Ascii, Passed}
 use Rattle.utf8.proofs.Cases.{by-order}
 use Rattle.utf8.proofs.Rows.{inside-in}
 
@@ -34,7 +35,7 @@ high-bit b h e =
     let f : _≡_ {A = ℕ} 128 0 = sym (ap (λ (q : ℕ). q % 2 * 128) one) ∙ sym (and-high b 1 7) ∙ e in
     omega arith)
 
-bytes-below : (s : List ℕ) → ((i : ℕ) → Fits w8 (getD s i 0)) → (n i : ℕ) → bitAnd (wordFrom n i s) (marks n) ≡ 0
+bytes-below : (s : List ℕ) → ((i : ℕ) → Fits w8 (getD s i 0)) → (n i : ℕ) → bitAnd (le n i s) (marks n) ≡ 0
     → (j : ℕ) → j < n → getD s (i + j) 0 < 128
 unfolding marks
 bytes-below s f zero i e j h = absurd (omega arith)
@@ -44,7 +45,7 @@ bytes-below s f (suc n) i e j h = go j h (bytes-below s f n (suc i))
     b = getD s i 0
 
     w : ℕ
-    w = wordFrom n (suc i) s
+    w = le n (suc i) s
 
     small : b < 256
     small = omega (arith, f i)
@@ -85,11 +86,11 @@ right a b e = left b a (rw (or-comm b a) e)
 abbrev Bytes : List ℕ → Type 0
 Bytes s = (i : ℕ) → Fits w8 (getD s i 0)
 
-word-ascii : (s : List ℕ) → Bytes s → (w : ℕ) → w ≡ word8 s → bitAnd w HIGH ≡ 0 → Ascii 8 s
+word-ascii : (s : List ℕ) → Bytes s → (w : ℕ) → w ≡ le 8 0 s → bitAnd w HIGH ≡ 0 → Ascii 8 s
 unfolding marks
 word-ascii s f w e t j h = let k : 0 + j ≡ j = omega arith in rw k at (bytes-below s f 8 0 (rw e at t) j h)
 
-pub plain-ascii : (s : List ℕ) → Bytes s → (w : ℕ) → w ≡ word8 s → eqb (bitAnd w HIGH) 0 ≡ true → Ascii 8 s
+pub plain-ascii : (s : List ℕ) → Bytes s → (w : ℕ) → w ≡ le 8 0 s → eqb (bitAnd w HIGH) 0 ≡ true → Ascii 8 s
 plain-ascii s f w e t = word-ascii s f w e (eqb-true _ _ t)
 
 -- the part `&s[i..]` of a slice
@@ -105,10 +106,10 @@ more m n s a b i h =
     let k : m + (i - m) ≡ i = omega arith in
     rw (getD-drop m s (i - m) 0, k) at (b (i - m) (omega arith)))
 
-module _ (s : List ℕ) (f : Bytes s) (a b c d : ℕ) (ea : a ≡ word8 s)
-    (eb : b ≡ word8 (onward 8 s)) (ec : c ≡ word8 (onward 16 s)) (ed : d ≡ word8 (onward 24 s)) where
-  later : (k w : ℕ) → w ≡ word8 (onward k s) → bitAnd w HIGH ≡ 0 → Ascii 8 (drop k s)
-  later k w e = word-ascii (drop k s) (λ i. rw getD-drop (f (k + i))) w (e ∙ ap word8 (onward-is k s))
+module _ (s : List ℕ) (f : Bytes s) (a b c d : ℕ) (ea : a ≡ le 8 0 s)
+    (eb : b ≡ le 8 0 (onward 8 s)) (ec : c ≡ le 8 0 (onward 16 s)) (ed : d ≡ le 8 0 (onward 24 s)) where
+  later : (k w : ℕ) → w ≡ le 8 0 (onward k s) → bitAnd w HIGH ≡ 0 → Ascii 8 (drop k s)
+  later k w e = word-ascii (drop k s) (λ i. rw getD-drop (f (k + i))) w (e ∙ ap (le 8 0) (onward-is k s))
 
   pub plain4-ascii : eqb (bitAnd (bitOr (bitOr (bitOr a b) c) d) HIGH) 0 ≡ true → Ascii 32 s
   plain4-ascii t =

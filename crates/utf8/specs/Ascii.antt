@@ -1,17 +1,9 @@
 -- Words of ASCII, eight bytes at a time. Nothing of this is promised to callers.
-use Prim.Native.Nat.{ℕ, zero, suc, _+_, _*_, _≤_, _<_}
+use Prim.Native.Nat.{ℕ, _≤_, _<_}
 use mathlib.Core.Path.{_≡_}
 use mathlib.Core.List.{List}
 use lib.ListN.{length, getD, drop}
 use Rattle.utf8.specs.WellFormed.{wellFormed}
-
--- n bytes from place i on, the lowest first
-abbrev pub wordFrom : ℕ → ℕ → List ℕ → ℕ
-wordFrom zero i s = 0
-wordFrom (suc n) i s = getD s i 0 + 256 * wordFrom n (suc i) s
-
-abbrev pub word8 : List ℕ → ℕ
-word8 s = wordFrom 8 0 s
 
 -- the first n bytes
 abbrev pub Ascii : ℕ → List ℕ → Type 0

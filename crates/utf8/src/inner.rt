@@ -5,39 +5,20 @@ ghost use Prim.Native.Nat.{_%_, _≤_, _<_};
 ghost use lib.ListN.{length, drop};
 ghost use Rattle.utf8.specs.WellFormed.{wellFormed};
 ghost use Rattle.utf8.specs.Machine.{State, Moves, Reads, Alike, Chart, Line, Packs};
-ghost use Rattle.utf8.specs.Ascii.{word8, Ascii, Passed};
+ghost use Rattle.utf8.specs.Ascii.{Ascii, Passed};
+use field::inner::u64_at;
+use paper::inner::wide;
 
 // ---- words of ASCII
 
 // The high bit of each byte of a word.
 const HIGH: u64 = 0x8080_8080_8080_8080;
 
-fn wide(x: u8) -> u64
-    ensures { λ r. ⌜ (r ≡ x) × (r < 256) ⌝ }
-{
-    x as u64
-}
-
-// The first eight bytes as one number, the first lowest: one load.
-fn word(s: &[u8]) -> u64
-    requires { ⌜ 8 ≤ length (now s) ⌝ }
-    ensures { λ r. ⌜ r ≡ word8 (now (s .entry)) ⌝ }
-{
-    wide(s[0])
-        + wide(s[1]) * 0x100
-        + wide(s[2]) * 0x1_0000
-        + wide(s[3]) * 0x100_0000
-        + wide(s[4]) * 0x1_0000_0000
-        + wide(s[5]) * 0x100_0000_0000
-        + wide(s[6]) * 0x1_0000_0000_0000
-        + wide(s[7]) * 0x100_0000_0000_0000
-}
-
 fn plain(s: &[u8]) -> bool
     requires { ⌜ 8 ≤ length (now s) ⌝ }
     ensures { λ r. ⌜ (r ≡ true → Ascii 8 (now (s .entry))) ⌝ }
 {
-    word(s) & HIGH == 0
+    u64_at(s) & HIGH == 0
 }
 
 // Four words.
@@ -45,7 +26,7 @@ fn plain4(s: &[u8]) -> bool
     requires { ⌜ 32 ≤ length (now s) ⌝ }
     ensures { λ r. ⌜ (r ≡ true → Ascii 32 (now (s .entry))) ⌝ }
 {
-    (word(s) | word(&s[8..]) | word(&s[16..]) | word(&s[24..])) & HIGH == 0
+    (u64_at(s) | u64_at(&s[8..]) | u64_at(&s[16..]) | u64_at(&s[24..])) & HIGH == 0
 }
 
 // Passes over whole words of ASCII from this place on: at the place that it answers the text goes on as well-formed as at this one.

@@ -7,12 +7,7 @@ ghost use Rattle.paper.specs.Answer.{over};
 ghost use Rattle.paper.specs.Coded.{Coded};
 ghost use Rattle.varint.specs.Leb.{endU64, lenU64, lebBytes};
 ghost use Rattle.varint.specs.Scan.{Going, Found, FoundAt};
-
-pub fn wide(x: u8) -> u64
-    ensures { λ r. ⌜ r ≡ x ⌝ }
-{
-    x as u64
-}
+use paper::inner::wide;
 
 // The sum so far with the low seven bits of byte `i`: what passes 64 bits is dropped.
 fn grown(value: u64, byte: u8, i: usize) -> u64

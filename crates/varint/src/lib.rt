@@ -3,7 +3,7 @@
 // Unsigned integers are LEB128, little-endian base 128: seven bits a byte, the high bit set while more bytes follow.
 // Signed integers are ZigZag and then LEB128. A read answers the value and the bytes taken, or a refusal's number.
 ghost use mathlib.Core.Path.{_≡_};
-ghost use Prim.Native.Nat.{_+_, _*_, _%_, _^_, _<_, _≤_};
+ghost use Prim.Native.Nat.{_+_, _*_, _%_, _^_, _<_};
 ghost use lib.ListN.{length};
 ghost use mir.Syntax.{w64};
 ghost use mir.Val.{ofZ};
@@ -12,6 +12,7 @@ ghost use Rattle.varint.specs.Leb.{readU64, writeU64, lenU64};
 ghost use Rattle.varint.specs.Zigzag.{zigzag, unzigzag};
 ghost use Rattle.varint.specs.Number.{readI64, writeI64, lenI64};
 ghost use Rattle.varint.specs.Paper.{paperU64, paperI64, paperWrote};
+use paper::inner::wide;
 
 pub mod inner;
 
@@ -112,9 +113,9 @@ pub fn read_i64(buf: &[u8], pos: usize) -> ReadI64
     }
     let byte = buf[pos];
     if byte < 128 {
-        return ReadI64::Value(zigzag_decode(inner::wide(byte)), 1);
+        return ReadI64::Value(zigzag_decode(wide(byte)), 1);
     }
-    let found = inner::scan(&buf[pos..], inner::wide(byte) % 128, 1);
+    let found = inner::scan(&buf[pos..], wide(byte) % 128, 1);
     if found.taken == 0 {
         return ReadI64::Refused(1);
     }

@@ -7,4 +7,4 @@ pub varint-len-spec : {M : Type 1} → statement M
 varint-len-spec =
     tie.close
     (tie.spec
-    (λ c. search judging) (λ c κs. search judging) (λ c. search judging))
+    (λ c κs. search judging) (λ c. search judging))

@@ -11,7 +11,7 @@ returns c =
     let w2 = w3 .before .before in
     let w1 = w2 .before .before in
     plain4-ascii (w1 .before .before .args .s .now) (w1 .before .shared-slice-known .given) _ _ _ _
-    (w1 .word .ensures) (w2 .word2 .ensures) (w3 .word3 .ensures) (c .word4 .ensures)
+    (w1 .u64-at .ensures) (w2 .u64-at2 .ensures) (w3 .u64-at3 .ensures) (c .u64-at4 .ensures)
 
 pub plain4-spec : {M : Type 1} → statement M
 plain4-spec =

@@ -1,7 +1,7 @@
--- `cell::keyed::put_page` meets its contract. Assumes nothing.
+-- `cell::inner::keyed::put_page` meets its contract. Assumes nothing.
 use Rattle.cell.proofs.KeyWriting.{key-writing}
-use Rattle.cell.proofs.keyed.put_page.Statement.{statement}
-use Rattle.cell.proofs.keyed.put_page.Tie as tie
+use Rattle.cell.proofs.inner.keyed.put_page.Statement.{statement}
+use Rattle.cell.proofs.inner.keyed.put_page.Tie as tie
 
 pub put-page-spec : {M : Type 1} → statement M
 put-page-spec =

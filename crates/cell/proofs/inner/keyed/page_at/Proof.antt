@@ -1,7 +1,7 @@
--- `cell::keyed::page_at` meets its contract. Assumes nothing.
+-- `cell::inner::keyed::page_at` meets its contract. Assumes nothing.
 use Rattle.cell.proofs.Keys.{keys}
-use Rattle.cell.proofs.keyed.page_at.Statement.{statement}
-use Rattle.cell.proofs.keyed.page_at.Tie as tie
+use Rattle.cell.proofs.inner.keyed.page_at.Statement.{statement}
+use Rattle.cell.proofs.inner.keyed.page_at.Tie as tie
 
 pub page-at-spec : {M : Type 1} → statement M
 page-at-spec =

@@ -1,7 +1,7 @@
--- `cell::keyed::key_of` meets its contract. Assumes nothing.
+-- `cell::inner::keyed::key_of` meets its contract. Assumes nothing.
 use Rattle.cell.proofs.Keys.{keys}
-use Rattle.cell.proofs.keyed.key_of.Statement.{statement}
-use Rattle.cell.proofs.keyed.key_of.Tie as tie
+use Rattle.cell.proofs.inner.keyed.key_of.Statement.{statement}
+use Rattle.cell.proofs.inner.keyed.key_of.Tie as tie
 
 pub key-of-spec : {M : Type 1} → statement M
 key-of-spec =

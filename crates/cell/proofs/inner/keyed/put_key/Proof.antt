@@ -1,7 +1,7 @@
--- `cell::keyed::put_key` meets its contract. Assumes nothing.
+-- `cell::inner::keyed::put_key` meets its contract. Assumes nothing.
 use Rattle.cell.proofs.KeyWriting.{key-writing}
-use Rattle.cell.proofs.keyed.put_key.Statement.{statement}
-use Rattle.cell.proofs.keyed.put_key.Tie as tie
+use Rattle.cell.proofs.inner.keyed.put_key.Statement.{statement}
+use Rattle.cell.proofs.inner.keyed.put_key.Tie as tie
 
 pub put-key-spec : {M : Type 1} → statement M
 put-key-spec =
