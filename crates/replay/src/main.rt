@@ -5,10 +5,9 @@
 mod answers;
 mod cell_calls;
 mod fields;
+mod print;
 mod text_calls;
 mod varint_calls;
-
-use libc::STDOUT_FILENO;
 
 // Layers, by number.
 const VARINT: u8 = 0;
@@ -83,21 +82,14 @@ fn replay_lines(layer: u8, text: &[u8], agree: &mut [u64; PLACES], differ: &mut 
     }
 }
 
-fn print_counts(agree: u64, differ: u64) {
-    io::print_decimal(STDOUT_FILENO, agree);
-    io::write_all(STDOUT_FILENO, b" agree, ");
-    io::print_decimal(STDOUT_FILENO, differ);
-    io::write_all(STDOUT_FILENO, b" differ\n");
-}
-
 fn print_calls(layer: u8, agree: &[u64; PLACES], differ: &[u64; PLACES]) {
     let last = calls(layer);
     let mut call = 1;
     while call < PLACES {
         if call <= last {
             print_name(layer, call);
-            io::write_all(STDOUT_FILENO, b" ");
-            print_counts(agree[call], differ[call]);
+            print::text(b" ");
+            print::counts(agree[call], differ[call]);
         }
         call += 1;
     }
@@ -130,10 +122,7 @@ fn replay(layer: u8, path: &[u8], total: &mut [u64; 2]) {
     let n = io::read_full(fd, &mut file);
     libc::close(fd);
     if n == FILE_ROOM {
-        io::write_all(
-            STDOUT_FILENO,
-            b"a file of data/ is longer than there is room for\n",
-        );
+        print::text(b"a file of data/ is longer than there is room for\n");
         total[1] = std::num::wrapping_add_u64(total[1], 1);
         return;
     }
@@ -148,6 +137,6 @@ fn main() {
     replay(VARINT, b"varint.txt", &mut total);
     replay(UTF8, b"utf8.txt", &mut total);
     replay(CELL, b"cell.txt", &mut total);
-    io::write_all(STDOUT_FILENO, b"total ");
-    print_counts(total[0], total[1]);
+    print::text(b"total ");
+    print::counts(total[0], total[1]);
 }
