@@ -27,6 +27,14 @@ pub fn three_agree(text: &[u8], line: usize, k: usize, code: u32, answer: &[u64;
     answer_agrees(text, line, k, code, answer)
 }
 
+pub fn four_agree(text: &[u8], line: usize, k: usize, code: u32, answer: &[u64; 4]) -> bool {
+    answer_agrees(text, line, k, code, answer)
+}
+
+pub fn five_agree(text: &[u8], line: usize, k: usize, code: u32, answer: &[u64; 5]) -> bool {
+    answer_agrees(text, line, k, code, answer)
+}
+
 // The result `code` and the answer array, against the fields from `k` on: the number and, where it is 0, the values.
 fn answer_agrees(text: &[u8], line: usize, k: usize, code: u32, answer: &[u64]) -> bool {
     let at = field(text, line, k);

@@ -6,6 +6,7 @@ mod answers;
 mod cell_calls;
 mod fields;
 mod print;
+mod reference_calls;
 mod text_calls;
 mod varint_calls;
 
@@ -16,12 +17,15 @@ const UTF8: u8 = 1;
 
 const CELL: u8 = 2;
 
+const REFERENCES: u8 = 3;
+
 // How many calls a layer has. They are numbered from 1 on.
 fn calls(layer: u8) -> usize {
     match layer {
         VARINT => varint_calls::CALLS,
         UTF8 => text_calls::CALLS,
         CELL => cell_calls::CALLS,
+        REFERENCES => reference_calls::CALLS,
         _ => 0,
     }
 }
@@ -32,6 +36,7 @@ fn replayed(layer: u8, call: usize, text: &[u8], line: usize) -> bool {
         VARINT => varint_calls::replayed(call, text, line),
         UTF8 => text_calls::replayed(call, text, line),
         CELL => cell_calls::replayed(call, text, line),
+        REFERENCES => reference_calls::replayed(call, text, line),
         _ => false,
     }
 }
@@ -41,6 +46,7 @@ fn print_name(layer: u8, call: usize) {
         VARINT => varint_calls::print_name(call),
         UTF8 => text_calls::print_name(call),
         CELL => cell_calls::print_name(call),
+        REFERENCES => reference_calls::print_name(call),
         _ => {}
     }
 }
@@ -137,6 +143,7 @@ fn main() {
     replay(VARINT, b"varint.txt", &mut total);
     replay(UTF8, b"utf8.txt", &mut total);
     replay(CELL, b"cell.txt", &mut total);
+    replay(REFERENCES, b"references.txt", &mut total);
     print::text(b"total ");
     print::counts(total[0], total[1]);
 }
