@@ -27,6 +27,14 @@ pub fn three_agree(text: &[u8], line: usize, k: usize, code: u32, answer: &[u64;
     answer_agrees(text, line, k, code, answer)
 }
 
+pub fn four_agree(text: &[u8], line: usize, k: usize, code: u32, answer: &[u64; 4]) -> bool {
+    answer_agrees(text, line, k, code, answer)
+}
+
+pub fn five_agree(text: &[u8], line: usize, k: usize, code: u32, answer: &[u64; 5]) -> bool {
+    answer_agrees(text, line, k, code, answer)
+}
+
 // The result `code` and the answer array, against the fields from `k` on: the number and, where it is 0, the values.
 fn answer_agrees(text: &[u8], line: usize, k: usize, code: u32, answer: &[u64]) -> bool {
     let at = field(text, line, k);
@@ -65,13 +73,7 @@ fn all_untouched(answer: &[u64]) -> bool {
 }
 
 // An output after the call, against the fields of it before and, where the call was accepted, after the call.
-pub fn output_agrees(
-    text: &[u8],
-    before: usize,
-    after: usize,
-    code: u32,
-    out: &[u8; ROOM],
-) -> bool {
+fn output_agrees(text: &[u8], before: usize, after: usize, code: u32, out: &[u8; ROOM]) -> bool {
     let last = if code == 0 { after } else { before };
     let mut expected = [0u8; ROOM];
     let mut sound = true;
@@ -82,4 +84,22 @@ pub fn output_agrees(
     } else {
         false
     }
+}
+
+// A write's result, its bytes and its output, against the fields from the output's own at `before` on.
+pub fn write_agrees(
+    sound: bool,
+    text: &[u8],
+    before: usize,
+    code: u32,
+    answer: &[u64; 1],
+    out: &[u8; ROOM],
+) -> bool {
+    if !sound {
+        return false;
+    }
+    if !one_agrees(text, before, 1, code, answer) {
+        return false;
+    }
+    output_agrees(text, before, field(text, before, 3), code, out)
 }

@@ -2,32 +2,28 @@
 use crate::answers::ROOM;
 use crate::answers::UNTOUCHED;
 use crate::answers::one_agrees;
-use crate::answers::output_agrees;
 use crate::answers::three_agree;
+use crate::answers::write_agrees;
 use crate::fields::field;
 use crate::fields::fill;
 use crate::fields::number;
 use crate::fields::signed;
-use libc::STDOUT_FILENO;
+use crate::print;
 
 // Numbered from 1 on, in the order of rust/differential/src/cell.rs.
 pub const CALLS: usize = 7;
 
 pub fn print_name(call: usize) {
     match call {
-        1 => name(b"smk_peek_kind"),
-        2 => name(b"smk_peek_rowid"),
-        3 => name(b"smk_encoded_size_at"),
-        4 => name(b"smk_cell_decode"),
-        5 => name(b"smk_cell_value"),
-        6 => name(b"smk_cell_encode"),
-        7 => name(b"smk_cell_encoded_len"),
-        _ => name(b"unknown"),
+        1 => print::text(b"smk_peek_kind"),
+        2 => print::text(b"smk_peek_rowid"),
+        3 => print::text(b"smk_encoded_size_at"),
+        4 => print::text(b"smk_cell_decode"),
+        5 => print::text(b"smk_cell_value"),
+        6 => print::text(b"smk_cell_encode"),
+        7 => print::text(b"smk_cell_encoded_len"),
+        _ => print::text(b"unknown"),
     }
-}
-
-fn name(bytes: &[u8]) {
-    io::write_all(STDOUT_FILENO, bytes);
 }
 
 // The recorded call on the line at `line`, made again: does the answer agree?
@@ -118,13 +114,7 @@ fn encode(text: &[u8], line: usize) -> bool {
         &mut out[..n],
         &mut answer,
     );
-    if !sound {
-        return false;
-    }
-    if !one_agrees(text, line, 6, code, &answer) {
-        return false;
-    }
-    output_agrees(text, before, field(text, line, 8), code, &out)
+    write_agrees(sound, text, before, code, &answer, &out)
 }
 
 // rowid, kinds, words, data; bytes

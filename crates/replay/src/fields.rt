@@ -88,6 +88,17 @@ fn of_pattern(bits: u64) -> i64 {
     }
 }
 
+// The page number that starts at `at`. Where it has more than 32 bits, `sound` is set to false.
+pub fn page_number(text: &[u8], at: usize, sound: &mut bool) -> u32 {
+    let page = number(text, at);
+    if page <= 0xFFFF_FFFF {
+        page as u32
+    } else {
+        *sound = false;
+        0
+    }
+}
+
 // A step of a field of bytes.
 enum Step {
     // So many bytes of this value; and the place of the next step.

@@ -5,10 +5,10 @@
 mod answers;
 mod cell_calls;
 mod fields;
+mod print;
+mod reference_calls;
 mod text_calls;
 mod varint_calls;
-
-use libc::STDOUT_FILENO;
 
 // Layers, by number.
 const VARINT: u8 = 0;
@@ -17,12 +17,15 @@ const UTF8: u8 = 1;
 
 const CELL: u8 = 2;
 
+const REFERENCES: u8 = 3;
+
 // How many calls a layer has. They are numbered from 1 on.
 fn calls(layer: u8) -> usize {
     match layer {
         VARINT => varint_calls::CALLS,
         UTF8 => text_calls::CALLS,
         CELL => cell_calls::CALLS,
+        REFERENCES => reference_calls::CALLS,
         _ => 0,
     }
 }
@@ -33,6 +36,7 @@ fn replayed(layer: u8, call: usize, text: &[u8], line: usize) -> bool {
         VARINT => varint_calls::replayed(call, text, line),
         UTF8 => text_calls::replayed(call, text, line),
         CELL => cell_calls::replayed(call, text, line),
+        REFERENCES => reference_calls::replayed(call, text, line),
         _ => false,
     }
 }
@@ -42,6 +46,7 @@ fn print_name(layer: u8, call: usize) {
         VARINT => varint_calls::print_name(call),
         UTF8 => text_calls::print_name(call),
         CELL => cell_calls::print_name(call),
+        REFERENCES => reference_calls::print_name(call),
         _ => {}
     }
 }
@@ -83,21 +88,14 @@ fn replay_lines(layer: u8, text: &[u8], agree: &mut [u64; PLACES], differ: &mut 
     }
 }
 
-fn print_counts(agree: u64, differ: u64) {
-    io::print_decimal(STDOUT_FILENO, agree);
-    io::write_all(STDOUT_FILENO, b" agree, ");
-    io::print_decimal(STDOUT_FILENO, differ);
-    io::write_all(STDOUT_FILENO, b" differ\n");
-}
-
 fn print_calls(layer: u8, agree: &[u64; PLACES], differ: &[u64; PLACES]) {
     let last = calls(layer);
     let mut call = 1;
     while call < PLACES {
         if call <= last {
             print_name(layer, call);
-            io::write_all(STDOUT_FILENO, b" ");
-            print_counts(agree[call], differ[call]);
+            print::text(b" ");
+            print::counts(agree[call], differ[call]);
         }
         call += 1;
     }
@@ -130,10 +128,7 @@ fn replay(layer: u8, path: &[u8], total: &mut [u64; 2]) {
     let n = io::read_full(fd, &mut file);
     libc::close(fd);
     if n == FILE_ROOM {
-        io::write_all(
-            STDOUT_FILENO,
-            b"a file of data/ is longer than there is room for\n",
-        );
+        print::text(b"a file of data/ is longer than there is room for\n");
         total[1] = std::num::wrapping_add_u64(total[1], 1);
         return;
     }
@@ -148,6 +143,7 @@ fn main() {
     replay(VARINT, b"varint.txt", &mut total);
     replay(UTF8, b"utf8.txt", &mut total);
     replay(CELL, b"cell.txt", &mut total);
-    io::write_all(STDOUT_FILENO, b"total ");
-    print_counts(total[0], total[1]);
+    replay(REFERENCES, b"references.txt", &mut total);
+    print::text(b"total ");
+    print::counts(total[0], total[1]);
 }

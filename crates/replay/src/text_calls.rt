@@ -3,20 +3,16 @@ use crate::answers::ROOM;
 use crate::answers::code_agrees;
 use crate::fields::field;
 use crate::fields::fill;
-use libc::STDOUT_FILENO;
+use crate::print;
 
 // Numbered from 1 on, in the order of rust/differential/src/utf8.rs.
 pub const CALLS: usize = 1;
 
 pub fn print_name(call: usize) {
     match call {
-        1 => name(b"smk_utf8_check"),
-        _ => name(b"unknown"),
+        1 => print::text(b"smk_utf8_check"),
+        _ => print::text(b"unknown"),
     }
-}
-
-fn name(bytes: &[u8]) {
-    io::write_all(STDOUT_FILENO, bytes);
 }
 
 // The recorded call on the line at `line`, made again: does the answer agree?

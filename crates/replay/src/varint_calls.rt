@@ -2,33 +2,29 @@
 use crate::answers::ROOM;
 use crate::answers::UNTOUCHED;
 use crate::answers::one_agrees;
-use crate::answers::output_agrees;
 use crate::answers::two_agree;
+use crate::answers::write_agrees;
 use crate::fields::field;
 use crate::fields::fill;
 use crate::fields::number;
 use crate::fields::signed;
-use libc::STDOUT_FILENO;
+use crate::print;
 
 // Numbered from 1 on, in the order of rust/differential/src/varint.rs.
 pub const CALLS: usize = 8;
 
 pub fn print_name(call: usize) {
     match call {
-        1 => name(b"smk_read_u64"),
-        2 => name(b"smk_read_i64"),
-        3 => name(b"smk_write_u64"),
-        4 => name(b"smk_write_i64"),
-        5 => name(b"smk_u64_len"),
-        6 => name(b"smk_i64_len"),
-        7 => name(b"smk_zigzag_encode"),
-        8 => name(b"smk_zigzag_decode"),
-        _ => name(b"unknown"),
+        1 => print::text(b"smk_read_u64"),
+        2 => print::text(b"smk_read_i64"),
+        3 => print::text(b"smk_write_u64"),
+        4 => print::text(b"smk_write_i64"),
+        5 => print::text(b"smk_u64_len"),
+        6 => print::text(b"smk_i64_len"),
+        7 => print::text(b"smk_zigzag_encode"),
+        8 => print::text(b"smk_zigzag_decode"),
+        _ => print::text(b"unknown"),
     }
-}
-
-fn name(bytes: &[u8]) {
-    io::write_all(STDOUT_FILENO, bytes);
 }
 
 // The recorded call on the line at `line`, made again: does the answer agree?
@@ -71,7 +67,7 @@ fn write_u64(text: &[u8], line: usize) -> bool {
     let n = fill(text, before, &mut out, &mut sound);
     let mut answer = [UNTOUCHED; 1];
     let code = seremonek::number::smk_write_u64(value, &mut out[..n], &mut answer);
-    wrote(sound, text, line, code, &answer, &out)
+    write_agrees(sound, text, before, code, &answer, &out)
 }
 
 // value, out; bytes
@@ -83,24 +79,7 @@ fn write_i64(text: &[u8], line: usize) -> bool {
     let n = fill(text, before, &mut out, &mut sound);
     let mut answer = [UNTOUCHED; 1];
     let code = seremonek::number::smk_write_i64(value, &mut out[..n], &mut answer);
-    wrote(sound, text, line, code, &answer, &out)
-}
-
-fn wrote(
-    sound: bool,
-    text: &[u8],
-    line: usize,
-    code: u32,
-    answer: &[u64; 1],
-    out: &[u8; ROOM],
-) -> bool {
-    if !sound {
-        return false;
-    }
-    if !one_agrees(text, line, 3, code, answer) {
-        return false;
-    }
-    output_agrees(text, field(text, line, 2), field(text, line, 5), code, out)
+    write_agrees(sound, text, before, code, &answer, &out)
 }
 
 // value; the answer itself
