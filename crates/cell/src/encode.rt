@@ -17,18 +17,9 @@ ghost use Rattle.utf8.specs.WellFormed.{checkText};
 ghost use Rattle.cell.specs.Listing.{wordList, used, held, payload, blockLen, usedAll, heldAll, kindBit, kindBits, kindMap, judged, Judged, blocksLen, headOf, columnsOf, bodyOf, bodySize, Good, Measures};
 use crate::KIND_LOCAL;
 use crate::inner::bitmap_bytes;
+use crate::tag;
 
-// The value tags, which are the kinds of a value list; a null's kind is 255, and 5 stands for a `Value::Null` inside a value.
-const INTEGER: u8 = 0;
-
-const REAL: u8 = 1;
-
-const TEXT: u8 = 2;
-
-const BOOL: u8 = 3;
-
-const VECTOR: u8 = 4;
-
+// The kinds of a value list that are no tags: a `Value::Null` inside a value, and a null.
 const INNER_NULL: u8 = 5;
 
 const NULL: u8 = 255;
@@ -51,10 +42,10 @@ fn data_used(kind: u8, word: u64) -> usize
     requires { ⌜ used kind word < 2 ^ 64 ⌝ }
     ensures { λ r. ⌜ r ≡ used kind word ⌝ }
 {
-    if kind == TEXT {
+    if kind == tag::TEXT {
         return word as usize;
     }
-    if kind == VECTOR {
+    if kind == tag::VECTOR {
         return 4 * word as usize;
     }
     0
@@ -85,16 +76,16 @@ fn block_len(kind: u8, word: u64) -> usize
     requires { ⌜ used kind word ≤ 16777216 ⌝ }
     ensures { λ r. ⌜ (r ≡ blockLen kind word) × (r ≤ 11 + used kind word) ⌝ }
 {
-    if VECTOR < kind {
+    if tag::VECTOR < kind {
         return 0;
     }
-    if kind == INTEGER {
+    if kind == tag::INTEGER {
         return 1 + varint_len(zigzag_bits(word));
     }
-    if kind == REAL {
+    if kind == tag::REAL {
         return 9;
     }
-    if kind == BOOL {
+    if kind == tag::BOOL {
         return 2;
     }
     1 + varint_len(word) + data_used(kind, word)
@@ -115,26 +106,26 @@ fn column_refusal(kind: u8, word: u64, data: &[u8], from: usize) -> u8
     requires { ⌜ from ≤ length (now «data») ⌝ }
     ensures { λ r. ⌜ Judged kind word (drop from (now («data» .entry))) r ⌝ }
 {
-    if kind == INTEGER {
+    if kind == tag::INTEGER {
         return 0;
     }
-    if kind == REAL {
+    if kind == tag::REAL {
         return 0;
     }
-    if kind == TEXT {
+    if kind == tag::TEXT {
         if data.len() - from < word as usize {
             return 15;
         }
         let to = from + word as usize;
         return text_refusal(&data[from..to]);
     }
-    if kind == BOOL {
+    if kind == tag::BOOL {
         if 1 < word {
             return 15;
         }
         return 0;
     }
-    if kind == VECTOR {
+    if kind == tag::VECTOR {
         if (data.len() - from) / 4 < word as usize {
             return 15;
         }
@@ -282,14 +273,14 @@ fn put_payload(out: &mut [u8], kind: u8, word: u64, data: &[u8], from: usize) ->
     ensures { λ r. ⌜ r ≡ length (payload kind word (drop from (now («data» .entry)))) ⌝ }
     ensures { λ _. ⌜ now (out .exit) ≡ over (now (out .entry)) (payload kind word (drop from (now («data» .entry)))) ⌝ }
 {
-    if kind == INTEGER {
+    if kind == tag::INTEGER {
         return varint::inner::put_u64(out, zigzag_bits(word));
     }
-    if kind == REAL {
+    if kind == tag::REAL {
         field::inner::put_u64(out, word);
         return 8;
     }
-    if kind == BOOL {
+    if kind == tag::BOOL {
         out[0] = bool_byte(word);
         return 1;
     }
@@ -304,7 +295,7 @@ fn put_block(out: &mut [u8], kind: u8, word: u64, data: &[u8], from: usize) -> u
     ensures { λ r. ⌜ r ≡ length (blockBytes (held kind word (drop from (now («data» .entry))))) ⌝ }
     ensures { λ _. ⌜ now (out .exit) ≡ over (now (out .entry)) (blockBytes (held kind word (drop from (now («data» .entry))))) ⌝ }
 {
-    if VECTOR < kind {
+    if tag::VECTOR < kind {
         return 0;
     }
     put_byte(out, kind);

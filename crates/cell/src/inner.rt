@@ -8,6 +8,7 @@ ghost use Rattle.paper.specs.Coded.{Coded};
 ghost use Rattle.cell.specs.Block.{isNull, bitmapBytes};
 ghost use Rattle.cell.specs.Words.{fixedEnd, textEnd, vectorEnd, blockEnd, columnEnd, columnsEnd, bodyEnd, RowidAt, Frame, Locally};
 use crate::KIND_LOCAL;
+use crate::tag;
 use paper::inner::refusal;
 use paper::inner::wide;
 
@@ -74,14 +75,14 @@ fn block_end(body: &[u8], at: usize) -> usize
     if body.len() <= at {
         return refusal(7);
     }
-    let tag = body[at];
+    let first = body[at];
     let next = at + 1;
-    match tag {
-        0 => varint::inner::end_at(body, next),
-        1 => fixed_end(body, next, 8),
-        2 => text_end(body, next),
-        3 => fixed_end(body, next, 1),
-        4 => vector_end(body, next),
+    match first {
+        tag::INTEGER => varint::inner::end_at(body, next),
+        tag::REAL => fixed_end(body, next, 8),
+        tag::TEXT => text_end(body, next),
+        tag::BOOL => fixed_end(body, next, 1),
+        tag::VECTOR => vector_end(body, next),
         _ => refusal(9),
     }
 }

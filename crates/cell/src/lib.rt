@@ -1,6 +1,7 @@
 // Cells: the port of cell.rs. One row per cell: an entry is its body's length and its body, and a body starts with a kind byte.
 pub mod encode;
 pub mod inner;
+pub mod tag;
 pub mod value;
 
 ghost use mathlib.Core.Path.{_≡_};

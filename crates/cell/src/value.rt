@@ -8,6 +8,7 @@ ghost use Rattle.cell.specs.ByColumn.{blockAt, columnAt, bodyValue, HasB
 ghost use Rattle.cell.specs.PaperValue.{paperValue, paperAsked};
 use crate::inner;
 use crate::inner::NO_PLACE;
+use crate::tag;
 use paper::inner::number;
 
 // What stands in a column. A float's pattern stands beside it, since a NaN does not tell its own; a text and a vector are a
@@ -42,20 +43,20 @@ fn value_block(body: &[u8], at: usize, shift: usize) -> Value
     requires { ⌜ HasBlock (now body) at × (shift + length (now body) < 2 ^ 63) ⌝ }
     ensures { λ r. ⌜ paperValue r ≡ moved shift (blockAt (now (body .entry)) at) ⌝ }
 {
-    let tag = body[at];
+    let first = body[at];
     let next = at + 1;
-    match tag {
-        0 => {
+    match first {
+        tag::INTEGER => {
             let found = varint::inner::value_at(body, next);
             Value::Integer(varint::zigzag_decode(found.value))
         }
-        1 => real(field::inner::u64_at(&body[next..])),
-        2 => {
+        tag::REAL => real(field::inner::u64_at(&body[next..])),
+        tag::TEXT => {
             let len = varint::inner::value_at(body, next);
             Value::Text(shift + (next + len.taken), len.value as usize)
         }
-        3 => Value::Bool(body[next] != 0),
-        // 4: no other tag was accepted.
+        tag::BOOL => Value::Bool(body[next] != 0),
+        // A vector: no other tag was accepted.
         _ => {
             let dim = varint::inner::value_at(body, next);
             Value::Vector(shift + (next + dim.taken), dim.value as usize)
