@@ -1,38 +1,11 @@
--- Numbers in an output that has room: a varint's bytes, and the ZigZag number of 64 bits.
+-- A varint has a byte at least.
 -- Assumes nothing.
-use mathlib.Core.Path.{_≡_, _∙_, ap}
-use mathlib.Core.List.{[], _∷_}
-use Prim.Native.Nat.{ℕ, suc, _+_, _-_, _%_, _^_, _≤_, _<_}
-use native.Mathlib.Omega.{arith}
+use Prim.Native.Nat.{ℕ, _-_, _≤_}
 use lib.ListN.{length}
-use lib.IntN.{negsuc}
-use mir.Syntax.{w64}
-use mir.Val.{Fits, toZ}
-use mir.ValLaws.{toZ-pos, toZ-neg}
 use Rattle.varint.specs.Leb.{lebBytes}
-use Rattle.varint.specs.Zigzag.{zigzag}
-use Rattle.varint.proofs.Limits.{groups-last, groups-some}
-use Rattle.cell.proofs.Placing.{placing}
-
--- ---- ZigZag: the bits doubled modulo 2 ^ 64, complemented from 2 ^ 63 on
-pub doubled-plus : {bits r : ℕ} → bits < 2 ^ 63 → r ≡ (bits + bits) % 2 ^ 64 → r ≡ zigzag (toZ w64 bits)
-unfolding zigzag
-doubled-plus {bits} {r} l e = rw (toZ-pos w64 bits l) (omega arith)
-
-pub doubled-minus : {bits r : ℕ} → Fits w64 bits → 2 ^ 63 ≤ bits → r ≡ (bits + bits) % 2 ^ 64 → 2 ^ 64 - 1 - r ≡ zigzag (toZ w64 bits)
-unfolding zigzag
-doubled-minus {bits} {r} f l e =
-    let d : bits ≡ 2 ^ 64 - suc (2 ^ 64 - suc bits) = omega arith in
-    let z : toZ w64 bits ≡ negsuc (2 ^ 64 - suc bits) = ap (toZ w64) d ∙ toZ-neg w64 (2 ^ 64 - suc bits) (omega arith) in
-    rw z (omega arith)
+use Rattle.varint.proofs.Limits.{groups-some}
 
 -- ---- the varint
 pub leb-some : (v : ℕ) → 1 ≤ length (lebBytes v)
 unfolding lebBytes
 leb-some v = groups-some 9 v
-
-pub leb-byte : (v : ℕ) → v < 128 → lebBytes v ≡ v ∷ []
-unfolding lebBytes
-leb-byte v h = groups-last 9 v h
-
-pub ruleset numbers = (placing, doubled-plus, doubled-minus)
