@@ -9,7 +9,7 @@ use lib.IntN.{ℤ}
 use mir.Syntax.{w64}
 use mir.Val.{SFits, ofZ, toZ}
 use mir.ValLaws.{toZ-ofZ}
-use borrow.Author.Needs.{needs}
+use Rattle.paper.proofs.Laws.{paper}
 use Rattle.paper.specs.Answer.{Answer, pick, put, sizeOf}
 use Rattle.cell.specs.Paper.{paperKind, paperRowid, paperSize, paperHead}
 use Rattle.cell.specs.declared.Head.{Head}
@@ -200,7 +200,7 @@ module _ (z : ℤ) (kinds words rest : List ℕ) (f : SFits w64 z) where
       length-kept h = wrote-kept _ (measured e) old h
 
 pub ruleset entries = (
-  needs,
+  paper,
   kind-code,
   kind-refused,
   kind-answer,

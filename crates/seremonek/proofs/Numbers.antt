@@ -7,7 +7,7 @@ use lib.IntN.{ℤ}
 use mir.Syntax.{w64}
 use mir.Val.{SFits, ofZ, toZ}
 use mir.ValLaws.{toZ-ofZ}
-use borrow.Author.Needs.{needs}
+use Rattle.paper.proofs.Laws.{paper}
 use Rattle.paper.specs.Answer.{Answer, gives, refuses, sizeOf}
 use Rattle.varint.specs.Paper.{paperU64, paperI64, paperWrote}
 use Rattle.varint.specs.declared.ReadU64.{ReadU64}
@@ -83,4 +83,4 @@ module _ {X : Type 0} (f : ℤ → X) (z : ℤ) (fits : SFits w64 z) {x : X} whe
   pub by-bits : x ≡ f (toZ w64 (ofZ w64 z)) → x ≡ f z
   by-bits e = e ∙ ap f (toZ-ofZ w64 z fits)
 
-pub ruleset numbers = (needs, u64-code, u64-refused, u64-answer, u64-kept, i64-code, i64-refused, i64-answer, i64-kept, wrote-code, wrote-refused, wrote-answer, wrote-kept)
+pub ruleset numbers = (paper, u64-code, u64-refused, u64-answer, u64-kept, i64-code, i64-refused, i64-answer, i64-kept, wrote-code, wrote-refused, wrote-answer, wrote-kept)

@@ -2,7 +2,7 @@
 pub mod inner;
 
 ghost use mathlib.Core.Path.{_≡_};
-ghost use Rattle.utf8.specs.Checked.{paper};
+ghost use Rattle.utf8.specs.Checked.{paperChecked};
 ghost use Rattle.utf8.specs.WellFormed.{checkText, checkAt};
 
 pub enum Checked {
@@ -12,7 +12,7 @@ pub enum Checked {
 
 // Text, or refusal 8.
 pub fn check(bytes: &[u8]) -> Checked
-    ensures { λ r. ⌜ paper r ≡ checkText (now (bytes .entry)) ⌝ }
+    ensures { λ r. ⌜ paperChecked r ≡ checkText (now (bytes .entry)) ⌝ }
 {
     if inner::accepted(bytes) {
         Checked::Text
@@ -23,7 +23,7 @@ pub fn check(bytes: &[u8]) -> Checked
 
 // The len bytes from place at. Refusal 7 where they do not all lie inside, whatever at + len comes to.
 pub fn check_at(buf: &[u8], at: usize, len: usize) -> Checked
-    ensures { λ r. ⌜ paper r ≡ checkAt (now (buf .entry)) at len ⌝ }
+    ensures { λ r. ⌜ paperChecked r ≡ checkAt (now (buf .entry)) at len ⌝ }
 {
     if buf.len() < at {
         return Checked::Refused(7);

@@ -12,8 +12,8 @@ use lib.Signed.{ltZ, nonNeg}
 use mir.Syntax.{w64}
 use mir.Val.{Fits, SFits, ofZ, toZ}
 use mir.ValLaws.{toZ-pos, toZ-neg, toZ-ofZ}
-use borrow.Author.Needs.{needs}
 use borrow.Author.Tests.{ltb-true, eq-eqb, ne-eqb}
+use Rattle.paper.proofs.Laws.{paper}
 use Rattle.paper.specs.Answer.{Answer, andThen, pick, put, sizeOf}
 use Rattle.varint.specs.Leb.{readU64, lenU64, writeU64}
 use Rattle.varint.specs.Zigzag.{zigzag, unzigzag}
@@ -139,7 +139,7 @@ module _ {u : ℕ} (z : ℤ) (f : SFits w64 z) (e : u ≡ zigzag (toZ w64 (ofZ w
   signed-written old p = rw (e, toZ-ofZ w64 z f) at p
 
 pub ruleset signed = (
-  needs,
+  paper,
   half-even,
   half-odd,
   going-second,
