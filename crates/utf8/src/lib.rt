@@ -1,5 +1,7 @@
 // UTF-8. Unicode's Table 3-7 of well-formed byte sequences decides; it stands in specs/Table.antt.
+// Two forms of the check make the same promise: `plain` goes by the table's rows, `inner` is the quick one, and proofs/Forms.antt shows that they answer the same.
 pub mod inner;
+pub mod plain;
 
 ghost use mathlib.Core.Path.{_≡_};
 ghost use Rattle.utf8.specs.Checked.{paperChecked};
@@ -10,7 +12,7 @@ pub enum Checked {
     Refused(u8),
 }
 
-// Text, or refusal 8.
+// Text, or refusal 8: the quick form.
 pub fn check(bytes: &[u8]) -> Checked
     ensures { λ r. ⌜ paperChecked r ≡ checkText (now (bytes .entry)) ⌝ }
 {
