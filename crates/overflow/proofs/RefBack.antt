@@ -20,9 +20,10 @@ use Rattle.varint.specs.Zigzag.{zigzag}
 use Rattle.varint.proofs.Laws.{read-is}
 use Rattle.cell.specs.Keyed.{keyedAt, pageAt, keyedBytes}
 use Rattle.cell.proofs.KeyAgain.{then-gave, key-fits, key-same, page-small, page-fills, key-plain, Again, entry-read-written, entry-plain-written, entry-written-plain}
-use Rattle.cell.proofs.KeyBack.{entry-back, key-back, key-rest, number-back, page-back}
+use Rattle.cell.proofs.KeyBack.{entry-back, key-back, key-rest, page-back}
 use Rattle.cell.proofs.KeyWriting.{leb-most}
 use Rattle.cell.proofs.PlainWritten.{fills-both, number-fills, number-plain}
+use Rattle.cell.proofs.Reread.{Stands, stands-number}
 use Rattle.overflow.specs.Reference.{referenceBody, referenceFrom, referenceBytes}
 use Rattle.overflow.specs.Plain.{PlainReferenceBody, PlainReference}
 
@@ -39,24 +40,27 @@ module _ (z : ℤ) (total page : ℕ) (f : SFits w64 z) (t : total < 2 ^ 64) (p 
       rw (length-append (lebBytes (zigzag z)) (lebBytes total ++ bytes 4 page), length-append (lebBytes total) (bytes 4 page), length-bytes 4 page)
       (omega arith)
 
+  total-stands : Stands body (1 + length (lebBytes (zigzag z))) (lebBytes total) (bytes 4 page)
+  unfolding body tail
+  total-stands = record { within = rw body-length (omega arith); is = key-rest 2 z tail f }
+
   body-plain : PlainReferenceBody body
-  unfolding PlainReferenceBody body tail
+  unfolding PlainReferenceBody body
   body-plain = (
     key-plain 2 z tail f,
-    λ x e. rw (← gives-one (sym (key-back 2 z tail f) ∙ e))
-        (number-plain {b = bytes 4 page} total t (record { within = rw body-length (omega arith); is = key-rest 2 z tail f })),
+    λ x e. rw (← gives-one (sym (key-back 2 z tail f) ∙ e)) (number-plain total t total-stands),
   )
 
   body-back : referenceBody body ≡ gives (z, total, page)
   unfolding referenceBody body tail andThen
   body-back =
       let at : ℕ = 1 + length (lebBytes (zigzag z)) in
-      let r : drop at body ≡ lebBytes total ++ bytes 4 page = key-rest 2 z (lebBytes total ++ bytes 4 page) f in
       let q : drop (at + length (lebBytes total)) body ≡ bytes 4 page
-      = sym (drop-drop (length (lebBytes total)) at body) ∙ ap (drop (length (lebBytes total))) r ∙ drop-append-seam (lebBytes total) (bytes 4 page) in
+      = sym (drop-drop (length (lebBytes total)) at body) ∙ ap (drop (length (lebBytes total))) (total-stands .is)
+      ∙ drop-append-seam (lebBytes total) (bytes 4 page) in
       rw (
         key-back 2 z (lebBytes total ++ bytes 4 page) f,
-        number-back body at total (bytes 4 page) t r,
+        stands-number total t total-stands,
         page-back body (at + length (lebBytes total)) page p (rw body-length (omega arith)) q,
       )
 
