@@ -23,4 +23,5 @@ pub mod WrittenRead
 pub mod KeyBack
 pub mod ReadWritten
 pub mod PlainWritten
+pub mod KeyAgain
 pub mod Exact
