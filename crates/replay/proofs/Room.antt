@@ -2,12 +2,11 @@
 use Prim.Native.Nat.{ℕ, _≤_}
 use native.Mathlib.Omega.{arith}
 use mathlib.Core.List.{List}
-use mathlib.Core.Path.{_≡_}
-use borrow.Author.Needs.{needs}
-use lib.ListN.{length, take, length-take}
+use lib.ListN.{length, length-take}
+use Rattle.paper.proofs.Laws.{paper}
 use Rattle.io.specs.Counts.{Counts}
 
 pub counts : (n : ℕ) (xs : List ℕ) → n ≤ length xs → Counts n xs
 counts n xs h = (h, simp length-take (omega arith))
 
-pub ruleset room = (needs, counts)
+pub ruleset room = (paper, counts)

@@ -1,6 +1,5 @@
 // Reading the fields of a line; rust/differential/src/record.rs has the notation. Every function takes any text and any place: past the
 // end there are zeros.
-ghost use mathlib.Core.Path.{_≡_};
 ghost use Prim.Native.Nat.{_+_, _<_, _≤_};
 ghost use lib.ListN.{length};
 ghost use Rattle.io.specs.Counts.{Counts};
