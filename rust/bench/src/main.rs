@@ -5,8 +5,8 @@
 //! ```
 //!
 //! Both sides are release builds, the originals without overflow checks, as a service would run them. Each call goes through a function pointer that the
-//! compiler cannot see through, so neither side is inlined into the loop around it. A round runs one side over the case's inputs and then the other, in
-//! turns; the table gives the ratio of the two medians, and between which values the middle eight tenths of the rounds' own ratios lie.
+//! compiler cannot see through, so neither side is inlined into the loop around it, and each word of its answer is looked at by itself. A round runs one side over the
+//! case's inputs and then the other, in turns; the table gives the ratio of the two medians, and between which values the middle eight tenths of the rounds' own ratios lie.
 //! It is no test: it fails on nothing.
 
 #[cfg(oracle_missing)]
@@ -16,6 +16,8 @@ fn main() {
 
 #[cfg(not(oracle_missing))]
 mod cell;
+#[cfg(not(oracle_missing))]
+mod numbers;
 #[cfg(not(oracle_missing))]
 mod references;
 #[cfg(not(oracle_missing))]
