@@ -144,7 +144,7 @@ fn value(table: &mut Table, rows: &Rows) {
     );
 }
 
-type OurEncode = unsafe extern "C" fn(i64, *const u8, usize, *const u8, usize, *const u8, usize, *mut u8, usize, *mut [u64; 1]) -> u32;
+pub type OurEncode = unsafe extern "C" fn(i64, *const u8, usize, *const u8, usize, *const u8, usize, *mut u8, usize, *mut [u64; 1]) -> u32;
 type RustEncode = fn(&Cell) -> Result<Vec<u8>>;
 
 /// The original makes its bytes in two vectors that grow, and answers one. Ours writes to an output with room for them, from a value list that is there.
@@ -192,7 +192,7 @@ fn encode(table: &mut Table, rows: &Rows) {
 }
 
 /// A cell's value list: kinds, words, data.
-fn list(cell: &Cell) -> (Vec<u8>, Vec<u8>, Vec<u8>) {
+pub fn list(cell: &Cell) -> (Vec<u8>, Vec<u8>, Vec<u8>) {
     let (mut kinds, mut words, mut data) = (Vec::new(), Vec::new(), Vec::new());
     for value in &cell.values {
         let (kind, word, bytes) = parts(value);

@@ -1,5 +1,6 @@
 //! Overflow references, paged entries and interior cells, read and written.
 
+use crate::cell::{OurEncode, list};
 use crate::numbers::Numbers;
 use crate::timing::{Table, look};
 use oracle_plain::error::Result;
@@ -54,7 +55,7 @@ pub fn cases(table: &mut Table) {
         read_case(table, &format!("overflow_decode {name}"), &encoded, ffi::smk_overflow_decode, OverflowRef::decode, |r, bytes| {
             [r.rowid as u64, r.total_body_len, u64::from(r.first_overflow_page), bytes]
         });
-        let ours: unsafe extern "C" fn(i64, u64, u32, *mut u8, usize, *mut [u64; 1]) -> u32 = black_box(ffi::smk_overflow_encode);
+        let ours: OurReference = black_box(ffi::smk_overflow_encode);
         let rust: fn(&OverflowRef) -> Vec<u8> = black_box(OverflowRef::encode);
         write_case(
             table,
@@ -83,6 +84,42 @@ pub fn cases(table: &mut Table) {
                 PagedEntry::Overflow(r) => [2, r.rowid as u64, r.total_body_len, u64::from(r.first_overflow_page), bytes],
             },
         );
+        // There is no call that writes either kind: a caller asks for the kind, as the original's writer does.
+        let reference: OurReference = black_box(ffi::smk_overflow_encode);
+        let local: OurEncode = black_box(ffi::smk_cell_encode);
+        let rust: fn(&PagedEntry) -> Result<Vec<u8>> = black_box(PagedEntry::encode);
+        let listed = |entry| match &entry {
+            PagedEntry::Local(cell) => (list(cell), entry),
+            PagedEntry::Overflow(_) => (Default::default(), entry),
+        };
+        let entries: Vec<_> = entries.into_iter().map(listed).collect();
+        write_case(
+            table,
+            &format!("entry_encode {name}"),
+            &entries,
+            |((kinds, words, data), entry), out, answer| match entry {
+                // SAFETY: as above.
+                PagedEntry::Overflow(r) => unsafe {
+                    reference(r.rowid, r.total_body_len, r.first_overflow_page, out.as_mut_ptr(), out.len(), answer)
+                },
+                // SAFETY: slices with their lengths, of which none overlaps another, and an array of the declared length.
+                PagedEntry::Local(cell) => unsafe {
+                    local(
+                        cell.rowid,
+                        kinds.as_ptr(),
+                        kinds.len(),
+                        words.as_ptr(),
+                        words.len(),
+                        data.as_ptr(),
+                        data.len(),
+                        out.as_mut_ptr(),
+                        out.len(),
+                        answer,
+                    )
+                },
+            },
+            |(_, entry)| rust(entry).unwrap_or_default(),
+        );
     }
     for (name, cells) in [("small", many(small_cell)), ("any", many(any_cell))] {
         let encoded: Vec<Vec<u8>> = cells.iter().map(InteriorCell::encode).collect();
@@ -107,6 +144,7 @@ pub fn cases(table: &mut Table) {
     }
 }
 
+type OurReference = unsafe extern "C" fn(i64, u64, u32, *mut u8, usize, *mut [u64; 1]) -> u32;
 type OurRead<const N: usize> = unsafe extern "C" fn(*const u8, usize, usize, *mut [u64; N]) -> u32;
 type RustRead<T> = fn(&[u8], usize) -> Result<(T, usize)>;
 
@@ -150,7 +188,7 @@ fn write_case<T>(
     name: &str,
     values: &[T],
     ours: impl Fn(&T, &mut [u8; 26], &mut [u64; 1]) -> u32,
-    rust: fn(&T) -> Vec<u8>,
+    rust: impl Fn(&T) -> Vec<u8>,
 ) {
     let mut array = [0u8; 26];
     table.case(
