@@ -117,3 +117,34 @@ pub fn damaged(good: &[u8], random: &mut Random) -> Vec<u8> {
     }
     bad
 }
+
+#[cfg(test)]
+mod tests {
+    use super::*;
+    use std::collections::HashSet;
+
+    #[test]
+    fn every_short_buffer_is_read_at_its_start() {
+        let mut counts = [0u32; 4];
+        every_short(false, |buf, pos| {
+            if pos == 0 {
+                // They come in order, so that none comes twice.
+                let number = buf.iter().fold(0, |number, byte| number << 8 | u32::from(*byte));
+                assert_eq!(number, counts[buf.len()]);
+                counts[buf.len()] += 1;
+            }
+        });
+        assert_eq!(counts, [1, 1 << 8, 1 << 16, 1 << 24]);
+    }
+
+    #[test]
+    fn every_body_stands_behind_its_length() {
+        let mut bodies = HashSet::new();
+        every_body(&[2, 0x80], &ALL, 2, |entry| {
+            assert_eq!(usize::from(entry[0]), entry.len() - 1);
+            assert!(entry[1..].starts_with(&[2, 0x80]) && entry.len() <= 5);
+            assert!(bodies.insert(entry.to_vec()), "{entry:?} comes twice");
+        });
+        assert_eq!(bodies.len(), 1 + (1 << 8) + (1 << 16));
+    }
+}
