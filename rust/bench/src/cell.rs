@@ -1,6 +1,7 @@
 //! Local entries: read whole, asked for a column, and written.
 
-use crate::timing::Table;
+use crate::numbers::Numbers;
+use crate::timing::{Table, look};
 use oracle_plain::error::Result;
 use oracle_plain::sql::db::table::Value;
 use oracle_plain::sql::pager::cell::Cell;
@@ -17,48 +18,45 @@ struct Rows {
     cells: Vec<Cell>,
 }
 
-fn rows(name: &'static str, bytes: usize, row: impl Fn(u64) -> Vec<Option<Value>>) -> Rows {
-    let count = CALLS.min(PASS / bytes);
-    Rows { name, cells: (0..count as u64).map(|i| Cell::new(7_000_000 + 3 * i as i64, row(mixed(i)))).collect() }
+fn rows(name: &'static str, bytes: usize, row: impl Fn(&mut Numbers) -> Vec<Option<Value>>) -> Rows {
+    let mut numbers = Numbers::new();
+    let count = CALLS.min(PASS / bytes) as i64;
+    Rows { name, cells: (0..count).map(|i| Cell::new(7_000_000 + 3 * i, row(&mut numbers))).collect() }
 }
 
-/// A number that looks like any, from one that counts.
-fn mixed(i: u64) -> u64 {
-    let z = (i + 1).wrapping_mul(0x9E37_79B9_7F4A_7C15);
-    let z = (z ^ (z >> 30)).wrapping_mul(0xBF58_476D_1CE4_E5B9);
-    z ^ (z >> 27)
-}
-
-fn text(seed: u64, length: usize) -> Option<Value> {
+fn text(numbers: &mut Numbers, length: usize) -> Option<Value> {
     let letters = b"abcdefghijklmnopqrstuvwxyz 0123456789-";
-    let byte = |i: usize| char::from(letters[mixed(seed ^ i as u64) as usize % letters.len()]);
-    Some(Value::Text((0..length).map(byte).collect()))
+    Some(Value::Text((0..length).map(|_| char::from(*numbers.pick(letters))).collect()))
+}
+
+fn integer(least: i64, numbers: &mut Numbers, bits: u32) -> Option<Value> {
+    Some(Value::Integer(least + numbers.bits(bits) as i64))
 }
 
 fn cases_of() -> [Rows; 4] {
     [
-        rows("scan row", 64, |n| {
+        rows("scan row", 64, |numbers| {
             vec![
-                Some(Value::Integer((n >> 40) as i64)),
-                text(n, 12),
-                Some(Value::Bool(n & 1 == 1)),
-                Some(Value::Real(n as f64 / 1024.0)),
-                Some(Value::Integer(1_700_000_000 + (n >> 44) as i64)),
+                integer(0, numbers, 24),
+                text(numbers, 12),
+                Some(Value::Bool(numbers.bits(1) == 1)),
+                Some(Value::Real(numbers.next() as f64 / 1024.0)),
+                integer(1_700_000_000, numbers, 20),
             ]
         }),
-        rows("one column", 16, |n| vec![Some(Value::Integer((n >> 48) as i64))]),
+        rows("one column", 16, |numbers| vec![integer(0, numbers, 16)]),
         // A column is of one kind in all rows; three values of eight are null.
-        rows("twenty columns", 128, |n| {
-            let filled = |i: u64| match ((n >> (3 * i)) & 7, i % 5) {
+        rows("twenty columns", 128, |numbers| {
+            let mut filled = |i: u64| match (numbers.below(8), i % 5) {
                 (0..=2, _) => None,
-                (_, 0 | 3) => Some(Value::Integer((mixed(n ^ i) >> 50) as i64)),
-                (_, 1) => text(n ^ i, 8),
-                (_, 2) => Some(Value::Bool(n >> i & 1 == 1)),
+                (_, 0 | 3) => integer(0, numbers, 14),
+                (_, 1) => text(numbers, 8),
+                (_, 2) => Some(Value::Bool(numbers.bits(1) == 1)),
                 _ => Some(Value::Real(i as f64)),
             };
-            (0..20).map(filled).collect()
+            (0..20).map(&mut filled).collect()
         }),
-        rows("text of 1,000", 1024, |n| vec![text(n, 1000)]),
+        rows("text of 1,000", 1024, |numbers| vec![text(numbers, 1000)]),
     ]
 }
 
@@ -94,27 +92,23 @@ fn decode(table: &mut Table, rows: &Rows) {
     let ours: OurDecode = black_box(ffi::smk_cell_decode);
     let rust: RustDecode = black_box(Cell::decode);
     table.case(
-        &format!("decode {}", rows.name),
+        &format!("cell_decode {}", rows.name),
         places.len(),
         || {
-            let mut sum = 0u64;
             for pos in &places {
                 let mut answer = [0; 3];
                 // SAFETY: a slice with its length, and an array of the declared length.
                 if unsafe { ours(buf.as_ptr(), buf.len(), *pos, &mut answer) } == 0 {
-                    sum = sum.wrapping_add(answer[0]).wrapping_add(answer[1]).wrapping_add(answer[2]);
+                    look(&answer);
                 }
             }
-            black_box(sum);
         },
         || {
-            let mut sum = 0u64;
             for pos in &places {
                 if let Ok((cell, bytes)) = rust(&buf, *pos) {
-                    sum = sum.wrapping_add(cell.rowid as u64).wrapping_add(cell.values.len() as u64).wrapping_add(bytes as u64);
+                    look(&[cell.rowid as u64, cell.values.len() as u64, bytes as u64]);
                 }
             }
-            black_box(sum);
         },
     );
 }
@@ -128,37 +122,29 @@ fn value(table: &mut Table, rows: &Rows) {
     let ours: OurValue = black_box(ffi::smk_cell_value);
     let rust: RustDecode = black_box(Cell::decode);
     table.case(
-        &format!("value {}", rows.name),
+        &format!("cell_value {}", rows.name),
         places.len(),
         || {
-            let mut sum = 0u64;
             for pos in &places {
                 let mut answer = [0; 3];
                 // SAFETY: as above.
                 if unsafe { ours(buf.as_ptr(), buf.len(), *pos, column as u64, &mut answer) } == 0 {
-                    sum = sum.wrapping_add(answer[0]).wrapping_add(answer[1]);
+                    look(&answer);
                 }
             }
-            black_box(sum);
         },
         || {
-            let mut sum = 0u64;
             for pos in &places {
                 if let Ok((cell, _)) = rust(&buf, *pos) {
-                    sum = sum.wrapping_add(match &cell.values[column] {
-                        Some(Value::Integer(v)) => *v as u64,
-                        Some(Value::Text(text)) => text.len() as u64,
-                        Some(Value::Real(v)) => v.to_bits(),
-                        _ => 0,
-                    });
+                    let (kind, word, bytes) = parts(&cell.values[column]);
+                    look(&[kind.into(), word, bytes.as_ptr() as u64]);
                 }
             }
-            black_box(sum);
         },
     );
 }
 
-type OurEncode = unsafe extern "C" fn(i64, *const u8, usize, *const u8, usize, *const u8, usize, *mut u8, usize, *mut [u64; 1]) -> u32;
+pub type OurEncode = unsafe extern "C" fn(i64, *const u8, usize, *const u8, usize, *const u8, usize, *mut u8, usize, *mut [u64; 1]) -> u32;
 type RustEncode = fn(&Cell) -> Result<Vec<u8>>;
 
 /// The original makes its bytes in two vectors that grow, and answers one. Ours writes to an output with room for them, from a value list that is there.
@@ -168,10 +154,9 @@ fn encode(table: &mut Table, rows: &Rows) {
     let ours: OurEncode = black_box(ffi::smk_cell_encode);
     let rust: RustEncode = black_box(Cell::encode);
     table.case(
-        &format!("encode {}", rows.name),
+        &format!("cell_encode {}", rows.name),
         lists.len(),
         || {
-            let mut sum = 0u64;
             for (cell, (kinds, words, data)) in rows.cells.iter().zip(&lists) {
                 let mut answer = [0; 1];
                 // SAFETY: slices with their lengths, of which none overlaps another, and an array of the declared length.
@@ -190,39 +175,41 @@ fn encode(table: &mut Table, rows: &Rows) {
                     )
                 };
                 if number == 0 {
-                    sum += answer[0];
+                    look(&answer);
                 }
+                black_box(out.as_ptr());
             }
-            black_box((sum, &out));
         },
         || {
-            let mut sum = 0u64;
             for cell in &rows.cells {
                 if let Ok(bytes) = rust(cell) {
-                    sum += black_box(bytes).len() as u64;
+                    look(&[bytes.len() as u64]);
+                    black_box(bytes.as_ptr());
                 }
             }
-            black_box(sum);
         },
     );
 }
 
 /// A cell's value list: kinds, words, data.
-fn list(cell: &Cell) -> (Vec<u8>, Vec<u8>, Vec<u8>) {
+pub fn list(cell: &Cell) -> (Vec<u8>, Vec<u8>, Vec<u8>) {
     let (mut kinds, mut words, mut data) = (Vec::new(), Vec::new(), Vec::new());
     for value in &cell.values {
-        let (kind, word) = match value {
-            Some(Value::Integer(v)) => (0, *v as u64),
-            Some(Value::Real(v)) => (1, v.to_bits()),
-            Some(Value::Text(text)) => {
-                data.extend(text.as_bytes());
-                (2, text.len() as u64)
-            }
-            Some(Value::Bool(v)) => (3, u64::from(*v)),
-            _ => (255, 0),
-        };
+        let (kind, word, bytes) = parts(value);
         kinds.push(kind);
         words.extend(word.to_le_bytes());
+        data.extend(bytes);
     }
     (kinds, words, data)
+}
+
+/// Kind and word of a value, and a text's bytes.
+fn parts(value: &Option<Value>) -> (u8, u64, &[u8]) {
+    match value {
+        Some(Value::Integer(v)) => (0, *v as u64, &[]),
+        Some(Value::Real(v)) => (1, v.to_bits(), &[]),
+        Some(Value::Text(text)) => (2, text.len() as u64, text.as_bytes()),
+        Some(Value::Bool(v)) => (3, u64::from(*v), &[]),
+        _ => (255, 0, &[]),
+    }
 }

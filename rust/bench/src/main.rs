@@ -5,9 +5,12 @@
 //! ```
 //!
 //! Both sides are release builds, the originals without overflow checks, as a service would run them. Each call goes through a function pointer that the
-//! compiler cannot see through, so neither side is inlined into the loop around it. A round runs one side over the case's inputs and then the other, in
-//! turns; the table gives the ratio of the two medians, and between which values the middle eight tenths of the rounds' own ratios lie.
+//! compiler cannot see through, so neither side is inlined into the loop around it, and each word of its answer is looked at by itself. A round runs one side over the
+//! case's inputs and then the other, in turns; the table gives the ratio of the two medians, and between which values the middle eight tenths of the rounds' own ratios lie.
 //! It is no test: it fails on nothing.
+//!
+//! A call of a few nanoseconds hangs on where the linker puts it, too: a loop that comes to lie across two lines of 64 bytes costs up to a third more, on either side.
+//! `write_i64` of four bytes has had ratios from 0.6 to 1.1 in builds with the same instructions. Such a figure is to be taken from more than one build.
 
 #[cfg(oracle_missing)]
 fn main() {
@@ -16,6 +19,8 @@ fn main() {
 
 #[cfg(not(oracle_missing))]
 mod cell;
+#[cfg(not(oracle_missing))]
+mod numbers;
 #[cfg(not(oracle_missing))]
 mod references;
 #[cfg(not(oracle_missing))]

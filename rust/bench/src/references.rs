@@ -1,6 +1,8 @@
 //! Overflow references, paged entries and interior cells, read and written.
 
-use crate::timing::Table;
+use crate::cell::{OurEncode, list};
+use crate::numbers::Numbers;
+use crate::timing::{Table, look};
 use oracle_plain::error::Result;
 use oracle_plain::sql::db::table::Value;
 use oracle_plain::sql::pager::cell::Cell;
@@ -12,35 +14,9 @@ use std::hint::black_box;
 /// Inputs of one pass.
 const CALLS: usize = 4096;
 
-/// Varying numbers, the same at each run.
-struct Numbers(u64);
-
-impl Numbers {
-    fn new() -> Numbers {
-        Numbers(0x9E37_79B9_7F4A_7C15)
-    }
-
-    fn next(&mut self) -> u64 {
-        self.0 ^= self.0 << 13;
-        self.0 ^= self.0 >> 7;
-        self.0 ^= self.0 << 17;
-        self.0.wrapping_mul(0x2545_F491_4F6C_DD1D)
-    }
-
-    /// A number of any size up to `bits`: as likely short as long.
-    fn sized(&mut self, bits: u64) -> u64 {
-        let size = (self.next() >> 40) % (bits + 1);
-        self.next().checked_shr(64 - size as u32).unwrap_or(0)
-    }
-}
-
 /// A row of a logger's table: rowids that count, totals of some thousands, pages of a small file.
 fn small_reference(numbers: &mut Numbers) -> OverflowRef {
-    OverflowRef {
-        rowid: (numbers.next() >> 44) as i64,
-        total_body_len: 1023 + (numbers.next() >> 50),
-        first_overflow_page: (numbers.next() >> 52) as u32,
-    }
+    OverflowRef { rowid: numbers.bits(20) as i64, total_body_len: 1023 + numbers.bits(14), first_overflow_page: numbers.bits(12) as u32 }
 }
 
 /// Numbers of every size, negative ones too.
@@ -49,7 +25,7 @@ fn any_reference(numbers: &mut Numbers) -> OverflowRef {
 }
 
 fn small_cell(numbers: &mut Numbers) -> InteriorCell {
-    InteriorCell { divider_rowid: (numbers.next() >> 44) as i64, child_page: (numbers.next() >> 52) as u32 }
+    InteriorCell { divider_rowid: numbers.bits(20) as i64, child_page: numbers.bits(12) as u32 }
 }
 
 fn any_cell(numbers: &mut Numbers) -> InteriorCell {
@@ -58,12 +34,12 @@ fn any_cell(numbers: &mut Numbers) -> InteriorCell {
 
 /// A local entry of two integers and a bool, so that neither side's time is a text's.
 fn small_local(numbers: &mut Numbers) -> PagedEntry {
-    let rowid = (numbers.next() >> 44) as i64;
+    let rowid = numbers.bits(20) as i64;
     let values = vec![
-        Some(Value::Integer((numbers.next() >> 48) as i64)),
-        Some(Value::Bool(numbers.next() >> 63 == 1)),
+        Some(Value::Integer(numbers.bits(16) as i64)),
+        Some(Value::Bool(numbers.bits(1) == 1)),
         None,
-        Some(Value::Integer((numbers.next() >> 40) as i64)),
+        Some(Value::Integer(numbers.bits(24) as i64)),
     ];
     PagedEntry::Local(Cell::new(rowid, values))
 }
@@ -79,7 +55,7 @@ pub fn cases(table: &mut Table) {
         read_case(table, &format!("overflow_decode {name}"), &encoded, ffi::smk_overflow_decode, OverflowRef::decode, |r, bytes| {
             [r.rowid as u64, r.total_body_len, u64::from(r.first_overflow_page), bytes]
         });
-        let ours: unsafe extern "C" fn(i64, u64, u32, *mut u8, usize, *mut [u64; 1]) -> u32 = black_box(ffi::smk_overflow_encode);
+        let ours: OurReference = black_box(ffi::smk_overflow_encode);
         let rust: fn(&OverflowRef) -> Vec<u8> = black_box(OverflowRef::encode);
         write_case(
             table,
@@ -108,6 +84,42 @@ pub fn cases(table: &mut Table) {
                 PagedEntry::Overflow(r) => [2, r.rowid as u64, r.total_body_len, u64::from(r.first_overflow_page), bytes],
             },
         );
+        // There is no call that writes either kind: a caller asks for the kind, as the original's writer does.
+        let reference: OurReference = black_box(ffi::smk_overflow_encode);
+        let local: OurEncode = black_box(ffi::smk_cell_encode);
+        let rust: fn(&PagedEntry) -> Result<Vec<u8>> = black_box(PagedEntry::encode);
+        let listed = |entry| match &entry {
+            PagedEntry::Local(cell) => (list(cell), entry),
+            PagedEntry::Overflow(_) => (Default::default(), entry),
+        };
+        let entries: Vec<_> = entries.into_iter().map(listed).collect();
+        write_case(
+            table,
+            &format!("entry_encode {name}"),
+            &entries,
+            |((kinds, words, data), entry), out, answer| match entry {
+                // SAFETY: as above.
+                PagedEntry::Overflow(r) => unsafe {
+                    reference(r.rowid, r.total_body_len, r.first_overflow_page, out.as_mut_ptr(), out.len(), answer)
+                },
+                // SAFETY: slices with their lengths, of which none overlaps another, and an array of the declared length.
+                PagedEntry::Local(cell) => unsafe {
+                    local(
+                        cell.rowid,
+                        kinds.as_ptr(),
+                        kinds.len(),
+                        words.as_ptr(),
+                        words.len(),
+                        data.as_ptr(),
+                        data.len(),
+                        out.as_mut_ptr(),
+                        out.len(),
+                        answer,
+                    )
+                },
+            },
+            |(_, entry)| rust(entry).unwrap_or_default(),
+        );
     }
     for (name, cells) in [("small", many(small_cell)), ("any", many(any_cell))] {
         let encoded: Vec<Vec<u8>> = cells.iter().map(InteriorCell::encode).collect();
@@ -132,13 +144,9 @@ pub fn cases(table: &mut Table) {
     }
 }
 
+type OurReference = unsafe extern "C" fn(i64, u64, u32, *mut u8, usize, *mut [u64; 1]) -> u32;
 type OurRead<const N: usize> = unsafe extern "C" fn(*const u8, usize, usize, *mut [u64; N]) -> u32;
 type RustRead<T> = fn(&[u8], usize) -> Result<(T, usize)>;
-
-/// Looks at each word of an answer by itself, as a caller does: a plain sum would be taken of several at once.
-fn mixed<const N: usize>(sum: u64, words: [u64; N]) -> u64 {
-    words.iter().fold(sum, |sum, word| sum.rotate_left(5) ^ word)
-}
 
 /// The entries one behind the other in one buffer, each read at its place.
 fn read_case<T, const N: usize>(
@@ -156,25 +164,20 @@ fn read_case<T, const N: usize>(
         name,
         places.len(),
         || {
-            let mut sum = 0u64;
             for pos in &places {
                 let mut answer = [0; N];
                 // SAFETY: a slice with its length, and an array of the declared length.
-                let number = unsafe { ours(buf.as_ptr(), buf.len(), *pos, &mut answer) };
-                if number == 0 {
-                    sum = mixed(sum, answer);
+                if unsafe { ours(buf.as_ptr(), buf.len(), *pos, &mut answer) } == 0 {
+                    look(&answer);
                 }
             }
-            black_box(sum);
         },
         || {
-            let mut sum = 0u64;
             for pos in &places {
                 if let Ok((entry, bytes)) = rust(&buf, *pos) {
-                    sum = mixed(sum, words(entry, bytes as u64));
+                    look(&words(entry, bytes as u64));
                 }
             }
-            black_box(sum);
         },
     );
 }
@@ -185,28 +188,27 @@ fn write_case<T>(
     name: &str,
     values: &[T],
     ours: impl Fn(&T, &mut [u8; 26], &mut [u64; 1]) -> u32,
-    rust: fn(&T) -> Vec<u8>,
+    rust: impl Fn(&T) -> Vec<u8>,
 ) {
     let mut array = [0u8; 26];
     table.case(
         name,
         values.len(),
         || {
-            let mut sum = 0;
             for value in values {
                 let mut answer = [0; 1];
                 if ours(value, &mut array, &mut answer) == 0 {
-                    sum += answer[0];
+                    look(&answer);
                 }
+                black_box(array.as_ptr());
             }
-            black_box((sum, &array));
         },
         || {
-            let mut sum = 0;
             for value in values {
-                sum += black_box(rust(value)).len();
+                let bytes = rust(value);
+                look(&[bytes.len() as u64]);
+                black_box(bytes.as_ptr());
             }
-            black_box(sum);
         },
     );
 }

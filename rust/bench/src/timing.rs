@@ -1,6 +1,16 @@
 //! Rounds, medians and spreads.
 
+use std::hint::black_box;
 use std::time::Instant;
+
+/// Takes an answer as a caller does, in every case and on both sides: each of its words by itself. Of a sum of several words the compiler may load two at once, which
+/// waits for both to be stored where the answer is an array in memory, and does not where it is in registers: such ratios could not be compared.
+#[inline(always)]
+pub fn look<const N: usize>(words: &[u64; N]) {
+    for word in words {
+        black_box(*word);
+    }
+}
 
 pub struct Table {
     rounds: usize,
@@ -8,12 +18,15 @@ pub struct Table {
 }
 
 impl Table {
-    /// Prints the heading: the machine, since a ratio is one machine's.
+    /// Prints the heading: machine and compiler, since a ratio is theirs. What follows is a table as documents have it.
     pub fn new(rounds: usize, names: Vec<String>) -> Table {
         let processors = std::fs::read_to_string("/proc/cpuinfo").unwrap_or_default();
         let model = processors.lines().find_map(|line| line.strip_prefix("model name")).unwrap_or(": a processor that gives no name");
-        println!("bench: {rounds} rounds of each side, on {}", model.trim_start_matches([' ', '\t', ':']));
-        println!("{:<28} {:>7}  {:>15}  {:>9} {:>9}", "case", "ratio", "10th to 90th", "ours ns", "Rust ns");
+        let model = model.trim_start_matches([' ', '\t', ':']);
+        println!("bench: {model}, {}, {rounds} rounds of each side", env!("RUSTC_VERSION"));
+        println!();
+        println!("| {:<28} | {:>5} | {:>14} | {:>9} | {:>9} |", "case", "ratio", "10th to 90th", "ours, ns", "Rust, ns");
+        println!("|:{:-<28}-|-{:->5}:|-{:->14}:|-{:->9}:|-{:->9}:|", "", "", "", "", "");
         Table { rounds, names }
     }
 
@@ -42,9 +55,9 @@ impl Table {
             ratios.push(a / b);
         }
         let (ours, rust) = (at(&mut times.0, 0.5), at(&mut times.1, 0.5));
-        let (low, high) = (at(&mut ratios, 0.1), at(&mut ratios, 0.9));
+        let spread = format!("{:.2} to {:.2}", at(&mut ratios, 0.1), at(&mut ratios, 0.9));
         let each = 1e9 / calls as f64;
-        println!("{name:<28} {:>7.2}  {low:>6.2} to {high:<5.2}  {:>9.2} {:>9.2}", ours / rust, ours * each, rust * each);
+        println!("| {name:<28} | {:>5.2} | {spread:>14} | {:>9.2} | {:>9.2} |", ours / rust, ours * each, rust * each);
     }
 }
 

@@ -1,24 +1,13 @@
 //! The check of texts, against `std::str::from_utf8`.
 
-use crate::timing::Table;
+use crate::numbers::Numbers;
+use crate::timing::{Table, look};
 use seremonek::ffi;
 use std::hint::black_box;
 use std::str::Utf8Error;
 
 /// Bytes of one pass, about: enough texts that they cannot be learnt by heart, and few enough to stay near.
 const PASS: usize = 1 << 17;
-
-/// Varying numbers, the same at each run.
-struct Numbers(u64);
-
-impl Numbers {
-    fn below(&mut self, bound: usize) -> usize {
-        self.0 ^= self.0 << 13;
-        self.0 ^= self.0 >> 7;
-        self.0 ^= self.0 << 17;
-        (self.0.wrapping_mul(0x2545_F491_4F6C_DD1D) >> 33) as usize % bound
-    }
-}
 
 const LETTERS: &str = "abcdefghijklmnopqrstuvwxyz ABCDEFGHIJKLMNOPQRSTUVWXYZ 0123456789.,-";
 const CJK: &str = "的一是不了人我在有他这中大来上个国和也子时道说出而得你日本語今日は漢字한국어사람";
@@ -45,12 +34,12 @@ const NAMES: [&str; 16] = [
 
 /// Texts of `length` bytes, or a little less where the last character does not fit; as many as a pass has room for.
 fn texts(words: &[&str], length: usize) -> Vec<Vec<u8>> {
-    let mut numbers = Numbers(0x9E37_79B9_7F4A_7C15);
+    let mut numbers = Numbers::new();
     (0..PASS / length)
         .map(|_| {
             let mut text = String::new();
             while text.len() < length {
-                text += words[numbers.below(words.len())];
+                text += *numbers.pick(words);
             }
             text.truncate((0..=length).rev().find(|end| text.is_char_boundary(*end)).unwrap());
             text.into_bytes()
@@ -64,8 +53,8 @@ fn characters(of: &str) -> Vec<&str> {
 }
 
 fn names() -> Vec<Vec<u8>> {
-    let mut numbers = Numbers(0x9E37_79B9_7F4A_7C15);
-    (0..PASS / 16).map(|_| NAMES[numbers.below(NAMES.len())].as_bytes().to_vec()).collect()
+    let mut numbers = Numbers::new();
+    (0..PASS / 16).map(|_| numbers.pick(&NAMES).as_bytes().to_vec()).collect()
 }
 
 /// The last byte of each is one that no text has.
@@ -108,11 +97,15 @@ fn case(table: &mut Table, name: &str, texts: Vec<Vec<u8>>) {
         name,
         parts.len(),
         || {
-            // SAFETY: a slice with its length.
-            black_box(parts.iter().filter(|part| unsafe { ours(part.as_ptr(), part.len()) } == 0).count());
+            for part in &parts {
+                // SAFETY: a slice with its length.
+                look(&[u64::from(unsafe { ours(part.as_ptr(), part.len()) })]);
+            }
         },
         || {
-            black_box(parts.iter().filter(|part| rust(part).is_ok()).count());
+            for part in &parts {
+                look(&[u64::from(rust(part).is_err())]);
+            }
         },
     );
 }

@@ -1,6 +1,7 @@
 //! Varints of each length, and of all lengths mixed.
 
-use crate::timing::Table;
+use crate::numbers::Numbers;
+use crate::timing::{Table, look};
 use oracle_plain::sql::pager::{varint, varint_open};
 use seremonek::ffi;
 use std::hint::black_box;
@@ -8,26 +9,15 @@ use std::hint::black_box;
 /// Inputs of one pass. Enough that a mix of lengths cannot be learnt by heart.
 const CALLS: usize = 8192;
 
-/// Varying numbers, the same at each run.
-fn numbers() -> impl FnMut() -> u64 {
-    let mut state = 0x9E37_79B9_7F4A_7C15u64;
-    move || {
-        state ^= state << 13;
-        state ^= state >> 7;
-        state ^= state << 17;
-        state.wrapping_mul(0x2545_F491_4F6C_DD1D)
-    }
-}
-
 /// Numbers that take `length` bytes, or any length where it is 0; each length as often.
 fn values(length: usize) -> Vec<u64> {
-    let mut next = numbers();
+    let mut numbers = Numbers::new();
     (0..CALLS)
         .map(|_| {
-            let length = if length == 0 { 1 + (next() >> 32) as usize % 10 } else { length };
+            let length = if length == 0 { 1 + numbers.below(10) } else { length };
             let low = if length == 1 { 0 } else { 1u64 << (7 * (length - 1)) };
             let high = if length == 10 { u64::MAX } else { (1u64 << (7 * length)) - 1 };
-            low + next() % (high - low).max(1)
+            low + numbers.next() % (high - low).max(1)
         })
         .collect()
 }
@@ -72,25 +62,20 @@ fn read_cases<T>(table: &mut Table, call: &str, ours: OurRead, rust: RustRead<T>
             &format!("{call} {name}"),
             places.len(),
             || {
-                let mut sum = 0u64;
                 for pos in &places {
                     let mut answer = [0; 2];
                     // SAFETY: a slice with its length, and an array of the declared length.
-                    let number = unsafe { ours(buf.as_ptr(), buf.len(), *pos, &mut answer) };
-                    if number == 0 {
-                        sum = sum.wrapping_add(answer[0]).wrapping_add(answer[1]);
+                    if unsafe { ours(buf.as_ptr(), buf.len(), *pos, &mut answer) } == 0 {
+                        look(&answer);
                     }
                 }
-                black_box(sum);
             },
             || {
-                let mut sum = 0u64;
                 for pos in &places {
                     if let Ok((value, bytes)) = rust(&buf, *pos) {
-                        sum = sum.wrapping_add(word(value)).wrapping_add(bytes as u64);
+                        look(&[word(value), bytes as u64]);
                     }
                 }
-                black_box(sum);
             },
         );
     });
@@ -116,24 +101,21 @@ fn write_cases<T: Copy>(table: &mut Table, call: &str, ours: OurWrite<T>, rust: 
             &format!("{call} {name}"),
             values.len(),
             || {
-                let mut sum = 0;
                 for value in &values {
                     let mut answer = [0; 1];
                     // SAFETY: a slice with its length, and an array of the declared length.
-                    let number = unsafe { ours(*value, array.as_mut_ptr(), array.len(), &mut answer) };
-                    if number == 0 {
-                        sum += answer[0];
+                    if unsafe { ours(*value, array.as_mut_ptr(), array.len(), &mut answer) } == 0 {
+                        look(&answer);
                     }
+                    black_box(array.as_ptr());
                 }
-                black_box((sum, &array));
             },
             || {
-                let mut sum = 0;
                 for value in &values {
                     vector.clear();
-                    sum += rust(&mut vector, *value);
+                    look(&[rust(&mut vector, *value) as u64]);
+                    black_box(vector.as_ptr());
                 }
-                black_box((sum, &vector));
             },
         );
     });
@@ -164,11 +146,7 @@ fn number_case<T: Copy>(table: &mut Table, name: &str, values: &[T], ours: impl 
     table.case(
         name,
         values.len(),
-        || {
-            black_box(values.iter().fold(0u64, |sum, value| sum.wrapping_add(ours(*value))));
-        },
-        || {
-            black_box(values.iter().fold(0u64, |sum, value| sum.wrapping_add(rust(*value))));
-        },
+        || values.iter().for_each(|value| look(&[ours(*value)])),
+        || values.iter().for_each(|value| look(&[rust(*value)])),
     );
 }

@@ -1,7 +1,8 @@
 //! cell.rs: the peeks; local entries read, asked by column, and written.
 
+use crate::entries::{self, LOCAL, framed, framed_longer};
 use crate::frame::{Call, Comparison, Expected, Input, Layer, Lent, Part, expect, expect_written};
-use crate::inputs::{self, leb};
+use crate::inputs::{self, ALL, leb};
 use crate::random::Random;
 use Part::{Bytes, Number, Output};
 use oracle::Reply;
@@ -236,12 +237,7 @@ impl List {
     }
 }
 
-// ---- entries, made here anew, so that they lean on neither side
-
-/// The entry with this body, its length right, in the fewest bytes or in `longer` more.
-fn framed(body: &[u8], longer: usize) -> Vec<u8> {
-    [inputs::leb_longer(body.len() as u64, longer), body.to_vec()].concat()
-}
+// ---- entries of lists
 
 /// How entries are made: with the fewest bytes and no spare bits, or with all that a reader takes.
 #[derive(Clone, Copy, PartialEq)]
@@ -303,45 +299,34 @@ fn some_list(columns: usize, random: &mut Random) -> List {
 
 /// The body of a row.
 fn body(rowid: i64, list: &List, form: Form, random: &mut Random) -> Vec<u8> {
-    let longer = |random: &mut Random| if form == Form::Loose && random.below(3) == 0 { random.below(4) as usize } else { 0 };
-    let count = list.kinds.len();
-    let mut body = vec![1];
-    body.extend(inputs::leb_longer(inputs::zigzag(rowid), longer(random)));
-    body.extend(inputs::leb_longer(count as u64, longer(random)));
-    let mut map = vec![0u8; count.div_ceil(8)];
-    for (column, kind) in list.kinds.iter().enumerate() {
-        if *kind == 255 {
-            map[column / 8] |= 1 << (column % 8);
-        }
-    }
-    if form == Form::Loose && count % 8 != 0 {
-        *map.last_mut().unwrap() |= random.byte() << (count % 8);
-    }
-    body.extend(map);
-    let mut data = &list.data[..];
-    let mut take = |n: usize| {
-        let (taken, rest) = data.split_at(n);
-        data = rest;
-        taken
+    let number = |value: u64, random: &mut Random| {
+        let longer = if form == Form::Loose && random.below(3) == 0 { random.below(4) as usize } else { 0 };
+        inputs::leb_longer(value, longer)
     };
-    for (kind, word) in list.kinds.iter().zip(list.words.chunks_exact(8)) {
-        let word = u64::from_le_bytes(word.try_into().unwrap());
-        if *kind == 255 {
-            continue;
-        }
-        body.push(*kind);
+    let columns = list.kinds.len();
+    let rowid = number(inputs::zigzag(rowid), random);
+    let count = number(columns as u64, random);
+    let spare = if form == Form::Loose && columns % 8 != 0 { random.byte() } else { 0 };
+    let mut data = &list.data[..];
+    let mut block = |kind: u8, word: u64| {
+        let mut block = vec![kind];
         match kind {
-            0 => body.extend(inputs::leb_longer(inputs::zigzag(word as i64), longer(random))),
-            1 => body.extend(word.to_le_bytes()),
-            3 if form == Form::Loose && word == 1 => body.push(random.byte() | 1 << random.below(8)),
-            3 => body.push(word as u8),
+            0 => block.extend(number(inputs::zigzag(word as i64), random)),
+            1 => block.extend(word.to_le_bytes()),
+            3 if form == Form::Loose && word == 1 => block.push(random.byte() | 1 << random.below(8)),
+            3 => block.push(word as u8),
             _ => {
-                body.extend(inputs::leb_longer(word, longer(random)));
-                body.extend(take(if *kind == 2 { word as usize } else { 4 * word as usize }));
+                let (taken, rest) = data.split_at(if kind == 2 { word as usize } else { 4 * word as usize });
+                data = rest;
+                block.extend(number(word, random));
+                block.extend(taken);
             }
         }
-    }
-    body
+        block
+    };
+    let words = list.words.chunks_exact(8).map(|word| u64::from_le_bytes(word.try_into().unwrap()));
+    let blocks: Vec<_> = list.kinds.iter().zip(words).map(|(kind, word)| (*kind != 255).then(|| block(*kind, word))).collect();
+    entries::local(&rowid, &count, &blocks, spare)
 }
 
 /// The starred entry of document 01: rowid 1, Integer 5, null, Text A, Bool true.
@@ -430,7 +415,7 @@ fn peeks(run: &mut Comparison) {
     for rowid in inputs::limits() {
         let body = [&[1][..], &leb(rowid), &[0]].concat();
         for end in 0..=body.len() {
-            let entry = framed(&body[..end], 0);
+            let entry = framed(&body[..end]);
             places.iter().for_each(|place| run.check(*place, &reading(&entry, 0, 0)));
         }
     }
@@ -443,62 +428,60 @@ fn peeks(run: &mut Comparison) {
             }
         }
     }
-    let whole = run.scale > 1;
-    inputs::every_short(whole, |buf, pos| {
-        // A reader of whole entries sees few of all three-byte buffers, and the peeks all of them in a long run alone.
-        let few = buf.len() < 3 || matches!(buf[0], 0x00..=0x03 | 0x7F | 0x80 | 0x81 | 0xFF);
-        let calls = if few { places.len() } else { 3 * usize::from(whole) };
-        places.iter().take(calls).for_each(|place| run.check(*place, &reading(buf, pos, 0)));
-    });
+    // No entry is as short as these, so there is no column behind the first to ask for.
+    inputs::every_short(run.long(), |buf, pos| places.iter().for_each(|place| run.check(*place, &reading(buf, pos, 0))));
 }
 
 /// Bodies up to four bytes behind a right length, and longer ones whose first bytes lead to the columns.
 fn bodies(run: &mut Comparison) {
     let (decode, value) = (run.place(DECODE), run.place(VALUE));
-    let both = |run: &mut Comparison, entry: &[u8]| {
-        run.check(decode, &reading(entry, 0, 0));
-        if entry.len() < 4 {
-            run.check(value, &reading(entry, 0, 0));
+    // Every entry is asked for its first column; one that is accepted for all others too, and for the one behind the last.
+    let whole = |run: &mut Comparison, entry: &[u8]| {
+        run.check(value, &reading(entry, 0, 0));
+        if let Some([_, columns, ..]) = run.answered(decode, &reading(entry, 0, 0)) {
+            (1..=columns).for_each(|column| run.check(value, &reading(entry, 0, column)));
         }
     };
-    for length in 0..=2usize {
-        for word in 0..1u32 << (8 * length) {
-            both(run, &[&[length as u8][..], &word.to_be_bytes()[4 - length..]].concat());
+    // All bodies of up to two bytes; of up to four behind the kind of a local entry, and of edges behind others.
+    inputs::every_body(&[], &ALL, 2, |entry| whole(run, entry));
+    inputs::every_body(&[LOCAL], &ALL, 3, |entry| whole(run, entry));
+    for kind in [0, 2, 3, 4, 0x81, 0xFF] {
+        inputs::every_body(&[kind], &[0, 1, 2, 3, 5, 0x7F, 0x80, 0x81, 0xFF], 3, |entry| whole(run, entry));
+    }
+    // Behind a rowid, one column and its bitmap: all blocks of up to two bytes; of up to three where there is such a tag, and of up to four in a long run.
+    let behind_tag = if run.long() { 3 } else { 2 };
+    for map in [0x00, 0xFE] {
+        inputs::every_body(&[LOCAL, 0, 1, map], &ALL, 2, |entry| whole(run, entry));
+        for tag in 0..=4 {
+            inputs::every_body(&[LOCAL, 0, 1, map, tag], &ALL, behind_tag, |entry| whole(run, entry));
         }
     }
-    let edges = |byte: u8| matches!(byte, 0 | 1 | 2 | 3 | 5 | 0x7F | 0x80 | 0x81 | 0xFF);
-    for kind in [1, 0, 2, 3, 4, 0x81, 0xFF] {
-        // All that stands behind the kind byte of a local entry in a long run; of the other kinds, and in a bounded one, some.
-        let whole = kind == 1 && run.scale > 1;
-        for word in 0..1u32 << 24 {
-            let [_, a, b, c] = word.to_be_bytes();
-            let three = c == 0;
-            if three && (kind == 1 || edges(a)) {
-                both(run, &[3, kind, a, b]);
-            }
-            if whole || (edges(a) && (kind == 1 || (edges(b) && edges(c)))) {
-                both(run, &[4, kind, a, b, c]);
-            }
+    // In the longest run all of four bytes behind a rowid and a column count.
+    if run.longest() {
+        for count in [1, 2] {
+            inputs::every_body(&[LOCAL, 0, count], &ALL, 4, |entry| whole(run, entry));
         }
     }
     // One to nine columns and a bitmap; then all two bytes, and what some of them ask for.
     for (count, map) in [(1, 0), (1, 0xFE), (2, 0), (2, 1), (2, 0xFE), (9, 0)] {
-        for word in 0..=u16::MAX {
-            let [a, b] = word.to_be_bytes();
-            for tail in [&[][..], &[0x41], &[0x41, 0x42], &[3, 1], &[2, 1, 0x41]] {
-                let mut body = vec![1, 0, count, map];
-                if count > 8 {
-                    body.push(0xFE);
-                }
-                body.extend([a, b]);
-                body.extend(tail);
-                both(run, &framed(&body, 0));
+        for tail in [&[][..], &[0x41], &[0x41, 0x42], &[3, 1], &[2, 1, 0x41]] {
+            let mut body = vec![LOCAL, 0, count, map];
+            if count > 8 {
+                body.push(0xFE);
+            }
+            let two = body.len();
+            body.extend([0, 0]);
+            body.extend(tail);
+            let mut entry = framed(&body);
+            for word in 0..=u16::MAX {
+                entry[1 + two..][..2].copy_from_slice(&word.to_be_bytes());
+                whole(run, &entry);
             }
         }
     }
     for (body, count) in telling_bodies() {
         for longer in [0, 1, 3] {
-            let entry = framed(&body, longer);
+            let entry = framed_longer(&body, longer);
             for column in [0, 1, count.wrapping_sub(1), count, u64::MAX] {
                 run.check(value, &reading(&entry, 0, column));
             }
@@ -527,7 +510,7 @@ fn rows(run: &mut Comparison) {
         let list = some_list(columns, &mut run.random);
         let rowid = inputs::signed_like(run.random.number()) as i64;
         let body = body(rowid, &list, form, &mut run.random);
-        let entry = framed(&body, if form == Form::Loose { run.random.below(3) as usize } else { 0 });
+        let entry = framed_longer(&body, if form == Form::Loose { run.random.below(3) as usize } else { 0 });
         let before = run.random.below(4) as usize;
         let mut buf = run.random.bytes(before);
         buf.extend(&entry);
@@ -550,12 +533,12 @@ fn rows(run: &mut Comparison) {
             damaged[at] = buf[at];
             both.iter().for_each(|place| run.check(*place, &reading(&buf[..at], before, column)));
             // Cut, with a length that is right again.
-            let cut = framed(&entry[entry.len() - body.len()..][..(at - before).min(body.len())], 0);
+            let cut = framed(&entry[entry.len() - body.len()..][..(at - before).min(body.len())]);
             both.iter().for_each(|place| run.check(*place, &reading(&cut, 0, column)));
         }
         for _ in 0..8 {
             let body = inputs::damaged(&body, &mut run.random);
-            let entry = framed(&body, 0);
+            let entry = framed(&body);
             both.iter().for_each(|place| run.check(*place, &reading(&entry, 0, column)));
         }
     }
@@ -702,7 +685,7 @@ fn sample(put: &mut dyn FnMut(&'static str, &Input)) {
     ]) {
         let entry = [&leb(value)[..], &[1, 0, 0]].concat();
         READERS.iter().for_each(|name| put(name, &reading(&entry, 0, 0)));
-        let entry = framed(&[&[1][..], &leb(value), &[0]].concat(), 0);
+        let entry = framed(&[&[1][..], &leb(value), &[0]].concat());
         READERS.iter().for_each(|name| put(name, &reading(&entry, 0, 0)));
     }
     for (place, (body, count)) in telling_bodies().into_iter().enumerate() {
@@ -710,7 +693,7 @@ fn sample(put: &mut dyn FnMut(&'static str, &Input)) {
         if body.len() > 12 && place % 8 != 0 {
             continue;
         }
-        let entry = framed(&body, 0);
+        let entry = framed(&body);
         put(DECODE, &reading(&entry, 0, 0));
         for column in [0, count] {
             put(VALUE, &reading(&entry, 0, column));
@@ -723,7 +706,7 @@ fn sample(put: &mut dyn FnMut(&'static str, &Input)) {
         let rowid = inputs::signed_like(random.number()) as i64;
         let form = if round % 2 == 0 { Form::Plain } else { Form::Loose };
         let body = body(rowid, &list, form, &mut random);
-        let entry = framed(&body, round % 3);
+        let entry = framed_longer(&body, round % 3);
         let before = round % 4;
         let buf = [&random.bytes(before)[..], &entry, &[0x55]].concat();
         READERS.iter().for_each(|name| put(name, &reading(&buf, before, 0)));

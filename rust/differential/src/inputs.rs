@@ -38,6 +38,17 @@ pub fn signed_like(value: u64) -> u64 {
     (value >> 1) ^ (value & 1).wrapping_neg()
 }
 
+/// Every byte.
+pub const ALL: [u8; 256] = {
+    let mut all = [0; 256];
+    let mut i = 0;
+    while i < 256 {
+        all[i] = i as u8;
+        i += 1;
+    }
+    all
+};
+
 /// All buffers of up to 3 bytes, each read at every position from 0 to one past its end, and at some that are far out.
 ///
 /// Of the 3-byte buffers a run that is not `whole` reads all at position 0, and at the later positions those with some of the first bytes.
@@ -63,6 +74,33 @@ pub fn every_short(whole: bool, mut read: impl FnMut(&[u8], usize)) {
     }
 }
 
+/// `front` with every sequence of up to `length` of `bytes` behind it.
+pub fn every_end(front: &[u8], bytes: &[u8], length: usize, mut try_it: impl FnMut(&[u8])) {
+    fn ends(all: &mut Vec<u8>, bytes: &[u8], length: usize, try_it: &mut impl FnMut(&[u8])) {
+        try_it(all);
+        if length > 0 {
+            for byte in bytes {
+                all.push(*byte);
+                ends(all, bytes, length - 1, try_it);
+                all.pop();
+            }
+        }
+    }
+    ends(&mut front.to_vec(), bytes, length, &mut try_it);
+}
+
+/// The same as bodies, each behind its length.
+pub fn every_body(front: &[u8], bytes: &[u8], length: usize, mut try_it: impl FnMut(&[u8])) {
+    assert!(front.len() + length < 0x80, "the length is a varint of one byte");
+    let mut entry = Vec::new();
+    every_end(front, bytes, length, |body| {
+        entry.clear();
+        entry.push(body.len() as u8);
+        entry.extend_from_slice(body);
+        try_it(&entry);
+    });
+}
+
 /// A copy with something wrong in it: a bit turned, a byte replaced, dropped or put in, or the end cut off.
 pub fn damaged(good: &[u8], random: &mut Random) -> Vec<u8> {
     let mut bad = good.to_vec();
@@ -78,4 +116,35 @@ pub fn damaged(good: &[u8], random: &mut Random) -> Vec<u8> {
         _ => bad.truncate(at),
     }
     bad
+}
+
+#[cfg(test)]
+mod tests {
+    use super::*;
+    use std::collections::HashSet;
+
+    #[test]
+    fn every_short_buffer_is_read_at_its_start() {
+        let mut counts = [0u32; 4];
+        every_short(false, |buf, pos| {
+            if pos == 0 {
+                // They come in order, so that none comes twice.
+                let number = buf.iter().fold(0, |number, byte| number << 8 | u32::from(*byte));
+                assert_eq!(number, counts[buf.len()]);
+                counts[buf.len()] += 1;
+            }
+        });
+        assert_eq!(counts, [1, 1 << 8, 1 << 16, 1 << 24]);
+    }
+
+    #[test]
+    fn every_body_stands_behind_its_length() {
+        let mut bodies = HashSet::new();
+        every_body(&[2, 0x80], &ALL, 2, |entry| {
+            assert_eq!(usize::from(entry[0]), entry.len() - 1);
+            assert!(entry[1..].starts_with(&[2, 0x80]) && entry.len() <= 5);
+            assert!(bodies.insert(entry.to_vec()), "{entry:?} comes twice");
+        });
+        assert_eq!(bodies.len(), 1 + (1 << 8) + (1 << 16));
+    }
 }

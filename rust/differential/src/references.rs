@@ -1,7 +1,8 @@
 //! Overflow references, paged entries (overflow.rs, first half) and interior cells (interior_page.rs).
 
+use crate::entries::{self, INTERIOR, LOCAL, OVERFLOW, framed, interior, reference};
 use crate::frame::{Call, Comparison, Expected, Input, Layer, Part, expect, expect_written};
-use crate::inputs::{self, leb, leb_in};
+use crate::inputs::{self, ALL, every_body, every_end, leb, leb_in};
 use crate::random::Random;
 use crate::varint::forms;
 use Part::{Bytes, Number, Output};
@@ -95,17 +96,13 @@ const READERS: [&str; 3] = ["smk_overflow_decode", "smk_entry_decode", "smk_inte
 const OVERFLOW_ENCODE: &str = "smk_overflow_encode";
 const INTERIOR_ENCODE: &str = "smk_interior_cell_encode";
 
-/// The kinds of document 01.
-const LOCAL: u8 = 1;
-const OVERFLOW: u8 = 2;
-const INTERIOR: u8 = 3;
 const KINDS: [u8; 3] = [LOCAL, OVERFLOW, INTERIOR];
 
 /// Bytes at which a varint, a kind, a tag or a page number changes what it says.
 const EDGES: [u8; 9] = [0x00, 0x01, 0x02, 0x03, 0x04, 0x05, 0x7F, 0x80, 0xFF];
 
 /// Page numbers: each byte of them alone, and the ends.
-const PAGES: [u64; 9] = [0, 1, 9, 0x7F, 0x80, 0x1234_5678, 0x8000_0000, 0xFF00_FF00, 0xFFFF_FFFF];
+const PAGES: [u32; 9] = [0, 1, 9, 0x7F, 0x80, 0x1234_5678, 0x8000_0000, 0xFF00_FF00, 0xFFFF_FFFF];
 
 /// Outputs from none to one more than a reference can take, and than an interior cell can.
 const REFERENCE_SIZES: std::ops::RangeInclusive<usize> = 0..=27;
@@ -119,29 +116,13 @@ fn writing(numbers: [u64; 4], output: &[u8]) -> Input<'_> {
     Input { numbers, outputs: [output, &[]], ..Input::default() }
 }
 
-// Entries are put together here anew, so that they lean on neither side.
-
-/// `body` behind its length.
-fn entry(body: &[u8]) -> Vec<u8> {
-    [&leb(body.len() as u64)[..], body].concat()
-}
-
-/// A reference's body, of numbers in any form.
-fn reference(rowid: &[u8], total: &[u8], first: u64) -> Vec<u8> {
-    [&[OVERFLOW][..], rowid, total, &page(first).to_le_bytes()].concat()
-}
-
-fn interior(divider: &[u8], child: u64) -> Vec<u8> {
-    [&[INTERIOR][..], divider, &page(child).to_le_bytes()].concat()
-}
-
 fn any_form(value: u64, random: &mut Random) -> Vec<u8> {
     let all: Vec<_> = forms(value).collect();
     random.pick(&all).clone()
 }
 
-fn any_page(random: &mut Random) -> u64 {
-    random.number() >> 32
+fn any_page(random: &mut Random) -> u32 {
+    (random.number() >> 32) as u32
 }
 
 /// A value block of each tag.
@@ -168,23 +149,14 @@ fn some_block(random: &mut Random) -> Vec<u8> {
     block
 }
 
-/// A good local body: rowid, columns, bitmap, blocks.
+/// A good local body.
 fn some_local(random: &mut Random) -> Vec<u8> {
-    let columns = random.below(12) as usize;
+    let columns = random.below(12);
     let rowid = random.number();
-    let mut body = vec![LOCAL];
-    body.extend(any_form(rowid, random));
-    body.extend(any_form(columns as u64, random));
-    let map = body.len();
-    body.extend(vec![0; columns.div_ceil(8)]);
-    for column in 0..columns {
-        if random.below(3) == 0 {
-            body[map + column / 8] |= 1 << (column % 8);
-        } else {
-            body.extend(some_block(random));
-        }
-    }
-    body
+    let rowid = any_form(rowid, random);
+    let count = any_form(columns, random);
+    let blocks: Vec<_> = (0..columns).map(|_| (random.below(3) != 0).then(|| some_block(random))).collect();
+    entries::local(&rowid, &count, &blocks, 0)
 }
 
 fn some_body(random: &mut Random) -> Vec<u8> {
@@ -212,7 +184,7 @@ fn all(run: &mut Comparison, places: &[usize; 3], buf: &[u8], pos: usize) {
 }
 
 /// `body` behind the length of it and of `more` bytes; alone, and with something behind it.
-fn framed(run: &mut Comparison, places: &[usize; 3], body: &[u8], more: u64) {
+fn both_ways(run: &mut Comparison, places: &[usize; 3], body: &[u8], more: u64) {
     let mut buf = leb(body.len() as u64 + more);
     buf.extend(body);
     all(run, places, &buf, 0);
@@ -220,49 +192,30 @@ fn framed(run: &mut Comparison, places: &[usize; 3], body: &[u8], more: u64) {
     all(run, places, &buf, 0);
 }
 
-/// `front` with every sequence of up to `length` of `bytes` behind it.
-fn every_end(front: &[u8], bytes: &[u8], length: usize, try_it: &mut dyn FnMut(&[u8])) {
-    try_it(front);
-    if length > 0 {
-        let mut longer = front.to_vec();
-        longer.push(0);
-        for byte in bytes {
-            *longer.last_mut().unwrap() = *byte;
-            every_end(&longer, bytes, length - 1, try_it);
-        }
-    }
-}
-
 fn readers(run: &mut Comparison) {
     let places = READERS.map(|name| run.place(name));
-    let every_byte: Vec<u8> = (0..=255).collect();
-    // All buffers of up to two bytes, of up to three in a long run, at every place and past the end.
-    if run.scale > 1 {
-        inputs::every_short(false, |buf, pos| all(run, &places, buf, pos));
-    } else {
-        every_end(&[], &every_byte, 2, &mut |buf| (0..=buf.len() + 1).for_each(|pos| all(run, &places, buf, pos)));
-        for far in [usize::MAX, usize::MAX - 9, usize::MAX / 2 + 1, 1 << 32] {
-            all(run, &places, &[0x08, 0x02], far);
-        }
+    let [overflow, paged, cell] = places;
+    let longest = run.longest();
+    inputs::every_short(run.long(), |buf, pos| all(run, &places, buf, pos));
+    // All bodies of up to two bytes; of up to four behind each kind, for the readers of that kind.
+    every_end(&[], &ALL, 2, |body| both_ways(run, &places, body, 0));
+    for (kind, readers) in [(LOCAL, &[paged][..]), (OVERFLOW, &[overflow, paged]), (INTERIOR, &[cell])] {
+        every_body(&[kind], &ALL, 3, |entry| readers.iter().for_each(|place| run.check(*place, &reading(entry, 0))));
     }
-    // All bodies of up to two bytes; of up to four behind each kind, all in a long run, and in a bounded one those with an edge as the second byte.
-    every_end(&[], &every_byte, 2, &mut |body| framed(run, &places, body, 0));
     for kind in KINDS {
-        if run.scale > 1 {
-            every_end(&[kind], &every_byte, 3, &mut |body| framed(run, &places, body, 0));
-        } else {
-            for second in [0x00, 0x01, 0x7F, 0x80, 0xFF] {
-                every_end(&[kind, second], &every_byte, 2, &mut |body| all(run, &places, &entry(body), 0));
-            }
-        }
         // Longer ones of edges alone, with a right length, and with one that is too long.
-        every_end(&[kind], &[0x00, 0x01, 0x80, 0xFF], 7, &mut |body| framed(run, &places, body, 0));
-        every_end(&[kind], &EDGES, 3, &mut |body| framed(run, &places, body, 1));
+        every_end(&[kind], &[0x00, 0x01, 0x80, 0xFF], 7, |body| both_ways(run, &places, body, 0));
+        every_end(&[kind], &EDGES, 3, |body| both_ways(run, &places, body, 1));
     }
-    // Behind a rowid, and behind a rowid and a total: all ends of up to two bytes, and edges up to six.
-    for front in [&[OVERFLOW, 0x0E, 0x88, 0x27][..], &[INTERIOR, 0x14]] {
-        every_end(front, &every_byte, 2, &mut |body| framed(run, &places, body, 0));
-        every_end(front, &[0x00, 0x7F, 0x80], 6, &mut |body| framed(run, &places, body, 0));
+    // Behind a rowid, and behind a rowid and a total: all ends of up to two bytes, and edges up to six; all pages with one lowest byte, and in the longest run all.
+    for (front, readers) in [(&[OVERFLOW, 0x0E, 0x88, 0x27][..], &[overflow, paged][..]), (&[INTERIOR, 0x14], &[cell])] {
+        every_end(front, &ALL, 2, |body| both_ways(run, &places, body, 0));
+        every_end(front, &[0x00, 0x7F, 0x80], 6, |body| both_ways(run, &places, body, 0));
+        let mut each = |entry: &[u8]| readers.iter().for_each(|place| run.check(*place, &reading(entry, 0)));
+        every_body(&[front, &[0x09]].concat(), &ALL, 3, &mut each);
+        if longest {
+            every_body(front, &ALL, 4, &mut each);
+        }
     }
     limits(run, &places);
     good_ones(run, &places);
@@ -280,7 +233,7 @@ fn limits(run: &mut Comparison, places: &[usize; 3]) {
             let other = run.random.number();
             let other = any_form(other, &mut run.random);
             for body in [reference(&form, &other, page), reference(&other, &form, page), interior(&form, page)] {
-                framed(run, places, &body, 0);
+                both_ways(run, places, &body, 0);
             }
         }
         // Lengths near the machine word's end: past the buffer, or past all numbers.
@@ -290,9 +243,9 @@ fn limits(run: &mut Comparison, places: &[usize; 3]) {
         for block in [2, 4] {
             let mut body = vec![LOCAL, 0, 1, 0, block];
             body.extend(leb(value));
-            framed(run, places, &body, 0);
+            both_ways(run, places, &body, 0);
             body.extend([b'A'; 8]);
-            framed(run, places, &body, 0);
+            both_ways(run, places, &body, 0);
         }
     }
     for page in PAGES {
@@ -309,7 +262,7 @@ fn limits(run: &mut Comparison, places: &[usize; 3]) {
 fn good_ones(run: &mut Comparison, places: &[usize; 3]) {
     for round in 0..40 * run.scale {
         let body = some_body(&mut run.random);
-        let good = entry(&body);
+        let good = framed(&body);
         for before in [0, 1, 5] {
             let mut buf = run.random.bytes(before);
             buf.extend(&good);
@@ -361,20 +314,20 @@ fn writers(run: &mut Comparison) {
         let (other, page) = (run.random.number(), *run.random.pick(&PAGES));
         for size in REFERENCE_SIZES {
             let output = run.random.bytes(size);
-            run.check(overflow, &writing([value, other, page, 0], &output));
-            run.check(overflow, &writing([other, value, page, 0], &output));
+            run.check(overflow, &writing([value, other, page.into(), 0], &output));
+            run.check(overflow, &writing([other, value, page.into(), 0], &output));
         }
         for size in INTERIOR_SIZES {
             let output = run.random.bytes(size);
-            run.check(interior, &writing([value, page, 0, 0], &output));
+            run.check(interior, &writing([value, page.into(), 0, 0], &output));
         }
     }
     for _ in 0..100_000 * run.scale {
         let (value, other, page) = (run.random.number(), run.random.number(), any_page(&mut run.random));
         let size = run.random.below(32) as usize;
         let output = run.random.bytes(size);
-        run.check(overflow, &writing([value, other, page, 0], &output));
-        run.check(interior, &writing([value, page, 0, 0], &output));
+        run.check(overflow, &writing([value, other, page.into(), 0], &output));
+        run.check(interior, &writing([value, page.into(), 0, 0], &output));
     }
 }
 
@@ -383,18 +336,18 @@ fn writers(run: &mut Comparison) {
 fn sample(put: &mut dyn FnMut(&'static str, &Input)) {
     let mut limits: Vec<u64> = (0..=9).flat_map(|k| [-1, 0].map(|near| (1u64 << (7 * k)).wrapping_add_signed(near))).collect();
     limits.extend([7, 5000, i64::MAX as u64, u64::MAX - 1, u64::MAX]);
-    let starred = [entry(&reference(&[0x0E], &[0x88, 0x27], 9)), entry(&interior(&[0x14], 3))];
-    let local = entry(&[1, 2, 4, 2, 0, 0x0A, 2, 1, 0x41, 3, 1]);
+    let starred = [framed(&reference(&[0x0E], &[0x88, 0x27], 9)), framed(&interior(&[0x14], 3))];
+    let local = framed(&[1, 2, 4, 2, 0, 0x0A, 2, 1, 0x41, 3, 1]);
     let mut random = Random::new(6);
     let mut read = |buf: &[u8], pos: usize| READERS.iter().for_each(|name| put(name, &reading(buf, pos)));
     for pos in [0, 1, 2, 9, usize::MAX - 9, usize::MAX] {
         read(&[], pos);
         read(&starred[0], pos);
     }
-    every_end(&[], &EDGES, 2, &mut |buf| read(buf, 0));
+    every_end(&[], &EDGES, 2, |buf| read(buf, 0));
     read(&[0xFF; 10], 0);
     for kind in 0..=7 {
-        read(&entry(&[kind, 0, 0, 0, 0, 0, 0]), 0);
+        read(&framed(&[kind, 0, 0, 0, 0, 0, 0]), 0);
     }
     for good in starred.iter().chain([&local]) {
         for before in [0, 3] {
@@ -414,31 +367,31 @@ fn sample(put: &mut dyn FnMut(&'static str, &Input)) {
         for form in [&all[0], &all[all.len() - 1]] {
             let page = *random.pick(&PAGES);
             for body in [reference(form, &[0x05], page), reference(&[0x05], form, page), interior(form, page)] {
-                read(&entry(&body), 0);
-                read(&entry(&body[..body.len() - 1]), 0);
-                read(&entry(&[&body[..], &[0]].concat()), 0);
-                read(&entry(&body[..1 + form.len() / 2]), 0);
+                read(&framed(&body), 0);
+                read(&framed(&body[..body.len() - 1]), 0);
+                read(&framed(&[&body[..], &[0]].concat()), 0);
+                read(&framed(&body[..1 + form.len() / 2]), 0);
             }
         }
     }
     // Varints of a body that go on for too long, or end where the body does though the buffer goes on.
     for front in [&[OVERFLOW][..], &[OVERFLOW, 0x05], &[INTERIOR], &[LOCAL], &[LOCAL, 0x05], &[LOCAL, 0x00, 0x01, 0x00, 0x00]] {
-        read(&entry(&[front, &[0xFF; 10]].concat()), 0);
-        read(&[&entry(&[front, &[0x80]].concat())[..], &[0x01; 8]].concat(), 0);
+        read(&framed(&[front, &[0xFF; 10]].concat()), 0);
+        read(&[&framed(&[front, &[0x80]].concat())[..], &[0x01; 8]].concat(), 0);
     }
     // The refusals that a local entry alone has.
     for columns in [&[1, 0][..], &[1, 0, 5], &[1, 0, 2, 1, 0xC0], &[1, 0, 4, 0xFF, 0xFF, 0xFF, 0xFF, 0x0F], &[9, 0], &[1, 0, 3, 1, 0]] {
-        read(&entry(&[&[LOCAL, 0x02][..], columns].concat()), 0);
+        read(&framed(&[&[LOCAL, 0x02][..], columns].concat()), 0);
     }
     for _ in 0..24 {
-        let good = entry(&some_body(&mut random));
+        let good = framed(&some_body(&mut random));
         read(&good, 0);
         read(&inputs::damaged(&good, &mut random), 0);
     }
     for page in PAGES {
         for value in [0, 7, 64, i64::MIN as u64] {
-            put(OVERFLOW_ENCODE, &writing([value, 5000, page, 0], &[0xE0; 26]));
-            put(INTERIOR_ENCODE, &writing([value, page, 0, 0], &[0xE0; 16]));
+            put(OVERFLOW_ENCODE, &writing([value, 5000, page.into(), 0], &[0xE0; 26]));
+            put(INTERIOR_ENCODE, &writing([value, page.into(), 0, 0], &[0xE0; 16]));
         }
     }
     for value in &limits {

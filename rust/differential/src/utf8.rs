@@ -81,20 +81,9 @@ fn compare(run: &mut Comparison) {
             run.check(place, &checking(&word.to_be_bytes()[4 - length..]));
         }
     }
-    // All strings of four bytes with a first byte from F0 on; in a bounded run, all first two bytes, and edges behind them.
-    if run.scale > 1 {
-        for word in 0xF000_0000..=u32::MAX {
-            run.check(place, &checking(&word.to_be_bytes()));
-        }
-    } else {
-        for word in 0xF000..=u16::MAX {
-            let [first, second] = word.to_be_bytes();
-            for third in EDGES {
-                for fourth in EDGES {
-                    run.check(place, &checking(&[first, second, third, fourth]));
-                }
-            }
-        }
+    // All strings of four bytes with a first byte from F0 on.
+    for word in 0xF000_0000..=u32::MAX {
+        run.check(place, &checking(&word.to_be_bytes()));
     }
     // Each character, alone and behind ASCII of every length up to four words and more, cut at every place, and each of its bytes replaced by every byte.
     for character in CHARACTERS {
@@ -108,7 +97,7 @@ fn compare(run: &mut Comparison) {
                 let mut text = whole.clone();
                 text.resize(whole.len() + after, b'y');
                 for at in before..whole.len() {
-                    every_byte_at(run, place, &mut text, at, &ALL);
+                    every_byte_at(run, place, &mut text, at, &inputs::ALL);
                 }
             }
         }
@@ -143,16 +132,6 @@ fn compare(run: &mut Comparison) {
         run.check(place, &checking(&bytes));
     }
 }
-
-const ALL: [u8; 256] = {
-    let mut all = [0; 256];
-    let mut i = 0;
-    while i < 256 {
-        all[i] = i as u8;
-        i += 1;
-    }
-    all
-};
 
 /// `text` with each of `bytes` at a place; it is afterwards as it was.
 fn every_byte_at(run: &mut Comparison, place: usize, text: &mut [u8], at: usize, bytes: &[u8]) {

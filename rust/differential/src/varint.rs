@@ -118,8 +118,7 @@ fn compare(run: &mut Comparison) {
 
 fn readers(run: &mut Comparison) {
     let places = READERS.map(|name| run.place(name));
-    let whole = run.scale > 1;
-    inputs::every_short(whole, |buf, pos| places.iter().for_each(|place| run.check(*place, &reading(buf, pos))));
+    inputs::every_short(run.long(), |buf, pos| places.iter().for_each(|place| run.check(*place, &reading(buf, pos))));
     // Each limit, in every length, with something before it, ending at every place.
     for value in inputs::limits() {
         for form in forms(value) {

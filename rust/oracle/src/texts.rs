@@ -1,6 +1,8 @@
 //! From the originals' error texts to document 01's refusal numbers: one row for each `SQLRiteError::Internal(..)` of the included files.
 //! `tests/texts.rs` fails where a text of the sources has no row, and where a row has no text.
 
+use std::sync::LazyLock;
+
 /// What a text stands for.
 #[derive(Clone, Copy, Debug, PartialEq, Eq)]
 pub enum Meaning {
@@ -68,17 +70,38 @@ pub const TABLE: &[(&str, &str, Meaning)] = &[
     ("page.rs", "unknown page type tag {other}", Unreached("no function that comes over asks for a page type by its number")),
 ];
 
+/// A row whose text is cut at its holes.
+struct Row {
+    pieces: Vec<&'static str>,
+    meaning: Meaning,
+}
+
+/// The rows by the first byte of their texts: a run of `differential` asks for some hundred million texts.
+static ROWS: LazyLock<[Vec<Row>; 256]> = LazyLock::new(|| {
+    let mut rows = [const { Vec::new() }; 256];
+    for (_, pattern, meaning) in TABLE {
+        let first = pattern.as_bytes()[0];
+        assert_ne!(first, b'{', "a text that starts with a value has no first byte to be found by: {pattern}");
+        rows[usize::from(first)].push(Row { pieces: pieces(pattern).collect(), meaning: *meaning });
+    }
+    rows
+});
+
 /// The refusal number of an error's text, or nothing where no row gives one.
 pub fn number(text: &str) -> Option<u32> {
-    TABLE.iter().find(|(_, pattern, _)| matches(pattern, text)).and_then(|(_, _, meaning)| match meaning {
-        Refusal(number) => Some(*number),
+    let rows = &ROWS[usize::from(*text.as_bytes().first()?)];
+    rows.iter().find(|row| fits(row.pieces.iter().copied(), text)).and_then(|row| match row.meaning {
+        Refusal(number) => Some(number),
         Unreached(_) => None,
     })
 }
 
 /// Whether `text` is `pattern` with something for each `{..}`.
 pub fn matches(pattern: &str, text: &str) -> bool {
-    let mut pieces = pieces(pattern);
+    fits(pieces(pattern), text)
+}
+
+fn fits<'a>(mut pieces: impl Iterator<Item = &'a str>, text: &str) -> bool {
     let first = pieces.next().unwrap_or("");
     let Some(mut rest) = text.strip_prefix(first) else {
         return false;
@@ -86,12 +109,20 @@ pub fn matches(pattern: &str, text: &str) -> bool {
     let mut ends_in_a_hole = false;
     for piece in pieces {
         ends_in_a_hole = piece.is_empty();
-        match rest.find(piece) {
+        match find(piece, rest) {
             Some(at) => rest = &rest[at + piece.len()..],
             None => return false,
         }
     }
     rest.is_empty() || ends_in_a_hole
+}
+
+/// Where `piece` first stands in `text`: `str::find` prepares for longer texts than these.
+fn find(piece: &str, text: &str) -> Option<usize> {
+    let Some(first) = piece.as_bytes().first() else {
+        return Some(0);
+    };
+    (0..text.len()).find(|at| text.as_bytes()[*at] == *first && text.as_bytes()[*at..].starts_with(piece.as_bytes()))
 }
 
 /// The parts of a pattern between its holes, first and last included though empty.

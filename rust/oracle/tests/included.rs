@@ -25,7 +25,7 @@ fn the_timed_copy_has_no_overflow_checks_in_release() {
     assert_eq!(reply, expected);
 }
 
-/// And so in the release build that `differential` and `record` run: see the Makefile, which runs these tests in both.
+/// Asked in the build that `differential` and `record` ask in: the Makefile runs these tests in release.
 #[test]
 fn the_three_ways_to_end() {
     assert_eq!(oracle::varint::read_u64(&[0xAC, 0x02], 0), Reply::Accepted((300, 2)));
