@@ -18,14 +18,11 @@ use Rattle.field.proofs.Storing.{length-bytes}
 use Rattle.varint.specs.Leb.{lebBytes}
 use Rattle.varint.specs.Paper.{paperWrote}
 use Rattle.varint.specs.declared.Wrote.the-variants as W
-use Rattle.varint.proofs.Limits.{groups-last, groups-most}
-use Rattle.cell.specs.Keyed.{keyOf, overAt, withLength, fitted}
+use Rattle.varint.proofs.Limits.{groups-last}
+use Rattle.cell.specs.Entry.{withLength, fitted}
+use Rattle.cell.specs.Keyed.{keyOf, overAt}
+pub use Rattle.cell.proofs.Numbers.{leb-most}
 use Rattle.cell.proofs.Placing.{lent, then-over, over-then, placing}
-
--- a varint has ten bytes at most
-pub leb-most : (v : ℕ) → length (lebBytes v) ≤ 10
-unfolding lebBytes
-leb-most v = groups-most 10 v
 
 pub two-first : (out : List ℕ) (a b : ℕ) → 2 ≤ length out → set (set out 0 a) 1 b ≡ over out (a ∷ b ∷ [])
 unfolding over

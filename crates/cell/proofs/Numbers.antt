@@ -1,7 +1,6 @@
 -- Numbers in an output that has room: a varint's bytes, and the ZigZag number of 64 bits.
 -- Assumes nothing.
 use mathlib.Core.Path.{_≡_, _∙_, ap}
-use mathlib.Core.List.{[], _∷_}
 use Prim.Native.Nat.{ℕ, suc, _+_, _-_, _%_, _^_, _≤_, _<_}
 use native.Mathlib.Omega.{arith}
 use lib.ListN.{length}
@@ -11,7 +10,7 @@ use mir.Val.{Fits, toZ}
 use mir.ValLaws.{toZ-pos, toZ-neg}
 use Rattle.varint.specs.Leb.{lebBytes}
 use Rattle.varint.specs.Zigzag.{zigzag}
-use Rattle.varint.proofs.Limits.{groups-last, groups-some}
+use Rattle.varint.proofs.Limits.{groups-most}
 use Rattle.cell.proofs.Placing.{placing}
 
 -- ---- ZigZag: the bits doubled modulo 2 ^ 64, complemented from 2 ^ 63 on
@@ -26,13 +25,9 @@ doubled-minus {bits} {r} f l e =
     let z : toZ w64 bits ≡ negsuc (2 ^ 64 - suc bits) = ap (toZ w64) d ∙ toZ-neg w64 (2 ^ 64 - suc bits) (omega arith) in
     rw z (omega arith)
 
--- ---- the varint
-pub leb-some : (v : ℕ) → 1 ≤ length (lebBytes v)
+-- ---- a varint has ten bytes at most
+pub leb-most : (v : ℕ) → length (lebBytes v) ≤ 10
 unfolding lebBytes
-leb-some v = groups-some 9 v
-
-pub leb-byte : (v : ℕ) → v < 128 → lebBytes v ≡ v ∷ []
-unfolding lebBytes
-leb-byte v h = groups-last 9 v h
+leb-most v = groups-most 10 v
 
 pub ruleset numbers = (placing, doubled-plus, doubled-minus)

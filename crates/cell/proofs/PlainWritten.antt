@@ -29,7 +29,7 @@ use Rattle.varint.proofs.Zigzag.{forth, unsigned-fits}
 use Rattle.utf8.specs.WellFormed.{checkText, checkAt}
 use Rattle.cell.specs.Block.{Block, null, integer, real, bool, text, vector, block, blockOf, isNull, bitmapBytes, columns}
 use Rattle.cell.specs.Content.{Content, none, whole, float, truth, letters, floats, contentOf}
-use Rattle.cell.specs.Entry.{framed, bodyAt, entry}
+use Rattle.cell.specs.Entry.{framed, bodyAt, entry, withLength}
 use Rattle.cell.specs.Local.{blocksAt, rowOf, localBody, cellFrom}
 use Rattle.cell.specs.Plain.{Shortest, PlainNumber, PlainBlock, PlainColumns, SpareClear, PlainBody, Plain}
 use Rattle.cell.specs.Written.{blockBytes, blocksBytes, nullBit, nullBits, bitmap, bodyBytes, entryBytes}
@@ -385,7 +385,7 @@ body-same body b p = by (eqb (length body) 0) refl (eqb (getD body 0 0) 1) refl
 -- ---- the theorem: a plain entry is written as it was read
 pub plain-written : (s : List ℕ) {n len size : ℕ} {rowid : ℤ} {bs : List Block} → Bytes s → Plain s → framed s ≡ gives (n, len)
     → cellFrom s ≡ gives ((rowid, bs), size) → entryBytes (rowid, map (contentOf (bodyAt s n len)) bs) ≡ take size s
-unfolding cellFrom entry andThen entryBytes Plain readU64
+unfolding cellFrom entry andThen entryBytes withLength Plain readU64
 plain-written s {n} {len} {size} {rowid} {bs} b p f e =
     by (localBody (bodyAt s n len)) (body-same (bodyAt s n len) (bytes-take len (drop n s) (bytes-drop n s b)) (p .1 (len, n) (framing s f .read))) (rw f at e)
   where
@@ -548,7 +548,7 @@ module _ (rowid : ℤ) (cs : List Content) (f : SFits w64 rowid) (s : AllSound c
       )
 
   entry-plain : length (bodyBytes (rowid, cs)) < 2 ^ 64 → (t : List ℕ) → Plain (entryBytes (rowid, cs) ++ t)
-  unfolding Plain entryBytes
+  unfolding Plain entryBytes withLength
   entry-plain k t =
       let body : List ℕ = bodyBytes (rowid, cs) in
       let n : ℕ = length body in

@@ -27,8 +27,8 @@ use Rattle.varint.proofs.Zigzag.{back, unsigned-fits}
 use Rattle.utf8.proofs.Laws.{at-inside}
 use Rattle.cell.specs.Block.{Block, null, integer, real, bool, text, vector, block, blockOf, isNull, bitmapBytes, columns}
 use Rattle.cell.specs.Content.{Content, none, whole, float, truth, letters, floats, contentOf}
-use Rattle.cell.specs.Entry.{framed, entry}
 use Rattle.cell.specs.Local.{blocksAt, rowOf, localBody, cellFrom}
+use Rattle.cell.proofs.Whole.{entry-back}
 use Rattle.cell.proofs.Listed.{Sound, AllSound}
 use Rattle.cell.proofs.Lengths.{bitmap-length}
 use Rattle.cell.specs.Written.{blockBytes, blocksBytes, nullBit, nullBits, bitmap, bodyBytes, entryBytes}
@@ -314,22 +314,9 @@ module _ (rowid : ℤ) (cs : List Content) (f : SFits w64 rowid) (s : AllSound c
   row-same = contents-back cs blocksPlace s blocks-stand
 
   module _ (b : length body < 2 ^ 64) (t : List ℕ) where
-    entry-back : cellFrom (entryBytes (rowid, cs) ++ t) ≡ gives ((rowid, laid blocksPlace cs), length (entryBytes (rowid, cs)))
-    unfolding cellFrom entry framed pick andThen entryBytes body
-    entry-back =
-        let k : ℕ = length body in
-        let a : (lebBytes k ++ body) ++ t ≡ lebBytes k ++ (body ++ t) = append-assoc (lebBytes k) body t in
-        let n : length (lebBytes k ++ (body ++ t)) ≡ length (lebBytes k) + (k + length t) = length-append (lebBytes k) (body ++ t) ∙ ap (λ (m : ℕ). length (lebBytes k) + m) (length-append body t) in
-        let h : k ≤ length (lebBytes k ++ (body ++ t)) - length (lebBytes k) = omega arith in
-        rw (
-          a,
-          number-read k b (body ++ t),
-          le-ltb (length (lebBytes k ++ (body ++ t)) - length (lebBytes k)) k h,
-          drop-append-seam (lebBytes k) (body ++ t),
-          take-append-seam body t,
-          row-back,
-          length-append (lebBytes k) body,
-        )
+    cell-back : cellFrom (entryBytes (rowid, cs) ++ t) ≡ gives ((rowid, laid blocksPlace cs), length (entryBytes (rowid, cs)))
+    unfolding cellFrom entryBytes body
+    cell-back = entry-back localBody body b row-back t
 
 -- a row that was written, with any bytes behind it: it reads back whole, and each block holds its content
 pub record Reread (rowid : ℤ) (cs : List Content) (t : List ℕ) : Type 0 where
@@ -341,4 +328,4 @@ pub row-reread : (rowid : ℤ) (cs : List Content) → SFits w64 rowid → AllSo
     → (t : List ℕ) → Reread rowid cs t
 unfolding body
 row-reread rowid cs f s l b t =
-    record { blocks = laid (blocksPlace rowid cs f s l) cs; read = entry-back rowid cs f s l b t; same = row-same rowid cs f s l }
+    record { blocks = laid (blocksPlace rowid cs f s l) cs; read = cell-back rowid cs f s l b t; same = row-same rowid cs f s l }

@@ -38,6 +38,7 @@ use Rattle.cell.specs.declared.value.Value.{Value}
 use Rattle.cell.specs.declared.value.Value.the-variants as Val
 use Rattle.cell.specs.declared.value.Asked.the-variants as Ask
 use Rattle.cell.proofs.Columns.{columns-step}
+use Rattle.cell.proofs.Heads.{frame-number}
 
 -- ---- the float of a pattern
 
@@ -382,9 +383,6 @@ module _ (body : List ℕ) {rowid count map end : ℕ} (k : Locally body rowid c
       body-value v p = rw (body-decides, lt-ltb column count h, column-is count map body column (k .given l .walk), p)
 
 module _ (s : List ℕ) {at end : ℕ} (f : Frame s at end) (pos column : ℕ) where
-  pub frame-number : 2 ^ 63 ≤ end → 2 ^ 64 - 256 ≤ end
-  frame-number l = f .top l
-
   pub frame-refused : {r : ℕ} → 2 ^ 63 ≤ end → r ≡ 2 ^ 64 - 1 - end → paperAsked (Ask.Refused r) ≡ valueFrom s pos column
   unfolding paperAsked valueFrom andThen
   frame-refused l d = rw (← f .refused l, d)

@@ -1,23 +1,25 @@
--- A whole entry reads the same with anything behind it, lies inside its list, and its rowid is the one that is peeked at.
+-- A whole entry: it reads as it was written, and the same with anything behind it; it lies inside its list; its rowid is the one
+-- that is peeked at.
 -- Assumes nothing.
 use mathlib.Core.Path.{_≡_, refl, sym, _∙_, ap}
 use mathlib.Core.Bool.{Bool, true, false}
 use mathlib.Core.List.{List, _++_, append-assoc}
-use Prim.Native.Nat.{ℕ, _+_, _-_, _≤_, _<_}
+use Prim.Native.Nat.{ℕ, _+_, _-_, _^_, _≤_, _<_}
 use native.Mathlib.Nat.{add-zero}
 use native.Mathlib.Omega.{arith}
 use lib.Dec.{ltb, eqb}
 use lib.IntN.{ℤ}
 use lib.ListN.{length, take, drop, getD, length-append, length-drop, take-append-drop}
-use lib.Seq.{take-add, drop-append-le, length-take-le, getD-take, getD-drop, drop-drop, take-at, drop-at}
+use lib.Seq.{take-add, drop-append-le, length-take-le, getD-take, getD-drop, drop-drop, take-at, drop-at, take-append-seam, drop-append-seam}
 use borrow.Author.Tests.{lt-ltb, le-ltb, ltb-false, eqb-true, eqb-false}
 use Rattle.paper.specs.Answer.{Answer, gives, refuses, andThen, pick}
 use Rattle.paper.proofs.Laws.{gives-one, gives-refuses, first, second}
-use Rattle.varint.specs.Leb.{readFrom, readU64}
+use Rattle.varint.specs.Leb.{readFrom, readU64, lebBytes}
 use Rattle.varint.specs.Number.{readI64}
 use Rattle.varint.specs.Zigzag.{unzigzag}
 use Rattle.varint.proofs.Laws.{read-is, read-append}
-use Rattle.cell.specs.Entry.{framed, bodyAt, entry, peekKind, peekRowid, rowidAt}
+use Rattle.varint.proofs.Standard.{written-read}
+use Rattle.cell.specs.Entry.{framed, bodyAt, entry, withLength, peekKind, peekRowid, rowidAt}
 use Rattle.cell.specs.Block.{Block}
 use Rattle.cell.specs.Keyed.{keyedAt}
 use Rattle.cell.specs.Local.{blocksAt, rowOf, localBody}
@@ -115,6 +117,24 @@ module _ {A : Type 0} (read : List ℕ → Answer A) where
     unfolding entry andThen
     whole-anywhere t =
         rw (← w .sum, whole-framed s (w .frame) t, whole-body s (w .frame) t, w .body)
+
+  -- a body that reads, written behind its length
+  pub entry-back : (body : List ℕ) {a : A} → length body < 2 ^ 64 → read body ≡ gives a → (t : List ℕ)
+      → entry read (withLength body ++ t) ≡ gives (a, length (withLength body))
+  unfolding entry framed withLength andThen pick
+  entry-back body l e t =
+      let k : (lebBytes (length body) ++ body) ++ t ≡ lebBytes (length body) ++ (body ++ t) = append-assoc (lebBytes (length body)) body t in
+      let r : length body ≤ length (lebBytes (length body) ++ (body ++ t)) - length (lebBytes (length body))
+      = rw (length-append (lebBytes (length body)) (body ++ t), length-append body t) (omega arith) in
+      rw (
+        k,
+        written-read (length body) l (body ++ t),
+        le-ltb (length (lebBytes (length body) ++ (body ++ t)) - length (lebBytes (length body))) (length body) r,
+        drop-append-seam (lebBytes (length body)) (body ++ t),
+        take-append-seam body t,
+        e,
+        length-append (lebBytes (length body)) body,
+      )
 
 -- ---- a body that has a kind and a rowid
 pub record HasKey (kind : ℕ) (body : List ℕ) (rowid : ℤ) : Type 0 where
