@@ -1,6 +1,6 @@
 -- The walk over the columns, and what it says of a whole body.
 -- Assumes nothing.
-use mathlib.Core.Path.{_≡_, refl, sym, _∙_}
+use mathlib.Core.Path.{_≡_, refl, sym, _∙_, ap}
 use mathlib.Core.Bool.{Bool, true, false}
 use mathlib.Core.List.{List, _∷_}
 use Prim.Native.Nat.{ℕ, zero, suc, zero-le, _+_, _-_, _*_, _/_, _%_, _^_, _≤_, _<_}
@@ -13,12 +13,13 @@ use borrow.Author.Tests.{ne-eqb, ltb-true, ltb-false}
 use Rattle.paper.specs.Answer.{Answer, gives, refuses, andThen, pick}
 use Rattle.paper.specs.Coded.{Coded}
 use Rattle.paper.proofs.Coding.{coded-place, coded-refusal, is-place, is-refusal, is-number}
-use Rattle.paper.proofs.Laws.{gives-one, gives-refuses}
+use Rattle.paper.proofs.Laws.{gives-one, gives-refuses, first, second}
 use Rattle.varint.specs.Leb.{readU64}
 use Rattle.varint.proofs.Places.{end-inside}
 use Rattle.utf8.specs.WellFormed.{wellFormed}
 use Rattle.cell.specs.Block.{Block, null, block, blockOf, columns, isNull, bitmapBytes}
 use Rattle.cell.specs.Words.{fixedEnd, textEnd, vectorEnd, blockEnd, columnEnd, columnsEnd, Walking}
+use Rattle.cell.proofs.Accepting.{stepped}
 use Rattle.cell.proofs.Blocks.{read-inside, endOf, integer-end, real-end, text-link, bool-end, vector-link, tagged, block-missing}
 
 -- ---- the place behind a block lies inside the body, past its own place
@@ -132,6 +133,35 @@ column-inside body map c at {e} h g = by (isNull body map c) g
     by : (t : Bool) → gives e ≡ andThen (pick t (gives (null, at)) (block body at)) (λ (b, end). gives end) → (at ≤ e) × (e ≤ length body)
     by true g = let z : e ≡ at = gives-one g in (omega arith, omega arith)
     by false g = let (l, m) = block-inside body at {e = e} g in (omega arith, m)
+
+-- ---- the first of some columns, and the others
+
+-- what is read at a place for a column
+abbrev pub reading : ℕ → ℕ → List ℕ → ℕ → Answer (Block × ℕ)
+reading c map body at = pick (isNull body map c) (gives (null, at)) (block body at)
+
+pub record First (n c map : ℕ) (body : List ℕ) (at : ℕ) (bs : List Block) (end : ℕ) : Type 0 where
+  pub head : Block
+  pub next : ℕ
+  pub tail : List Block
+  pub read : gives (head, next) ≡ reading c map body at
+  pub more : gives (tail, end) ≡ columns n (c + 1) map body next
+  pub parts : head ∷ tail ≡ bs
+
+pub first-of : (n c map : ℕ) (body : List ℕ) (at : ℕ) {bs : List Block} {end : ℕ} → gives (bs, end) ≡ columns (suc n) c map body at
+    → First n c map body at bs end
+unfolding columns
+first-of n c map body at g =
+    let v = stepped (reading c map body at) _ (sym g) in
+    let w = stepped (columns n (c + 1) map body (v .given .1)) _ (v .second) in
+    record {
+      head = v .given .0;
+      next = v .given .1;
+      tail = w .given .0;
+      read = sym (v .first);
+      more = ap (λ (e : ℕ). gives (w .given .0, e)) (sym (ap second (gives-one (w .second)))) ∙ sym (w .first);
+      parts = ap first (gives-one (w .second));
+    }
 
 -- ---- the columns, one after another
 pub columns-step : (n c map : ℕ) (body : List ℕ) (at : ℕ) → columnsEnd (suc n) c map body at ≡ andThen (columnEnd body map c at) (λ next. columnsEnd n (c + 1) map body next)

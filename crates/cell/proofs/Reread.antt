@@ -323,9 +323,10 @@ pub record Reread (rowid : ℤ) (cs : List Content) (t : List ℕ) : Type 0 wher
   pub blocks : List Block
   pub read : cellFrom (entryBytes (rowid, cs) ++ t) ≡ gives ((rowid, blocks), length (entryBytes (rowid, cs)))
   pub same : map (contentOf (bodyBytes (rowid, cs))) blocks ≡ cs
+  pub small : length (bodyBytes (rowid, cs)) < 2 ^ 64
 
 pub row-reread : (rowid : ℤ) (cs : List Content) → SFits w64 rowid → AllSound cs → length cs < 2 ^ 64 → length (bodyBytes (rowid, cs)) < 2 ^ 64
     → (t : List ℕ) → Reread rowid cs t
 unfolding body
 row-reread rowid cs f s l b t =
-    record { blocks = laid (blocksPlace rowid cs f s l) cs; read = cell-back rowid cs f s l b t; same = row-same rowid cs f s l }
+    record { blocks = laid (blocksPlace rowid cs f s l) cs; read = cell-back rowid cs f s l b t; same = row-same rowid cs f s l; small = b }

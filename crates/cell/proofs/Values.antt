@@ -2,7 +2,7 @@
 -- Assumes nothing.
 use mathlib.Core.Path.{_≡_, refl, sym, _∙_, ap}
 use mathlib.Core.Bool.{Bool, true, false, not}
-use mathlib.Core.List.{List, _∷_}
+use mathlib.Core.List.{List}
 use Prim.Native.Nat.{ℕ, zero, suc, _+_, _-_, _*_, _/_, _%_, _^_, _≤_, _<_}
 use native.Mathlib.Nat.{zero-add, add-zero, le-of-eq}
 use native.Mathlib.Omega.{arith}
@@ -19,7 +19,7 @@ use borrow.Author.Tests.{lt-ltb, le-ltb, ltb-true, ltb-false, ne-eqb, eqb-true, 
 use Rattle.paper.specs.Answer.{Answer, gives, refuses, andThen, pick}
 use Rattle.paper.specs.Coded.{Coded}
 use Rattle.paper.proofs.Coding.{is-place, is-refusal}
-use Rattle.paper.proofs.Laws.{gives-one, gives-refuses, first, second}
+use Rattle.paper.proofs.Laws.{gives-one, gives-refuses, first}
 use Rattle.field.specs.Field.{le}
 use Rattle.field.proofs.Laws.{le-drop}
 use Rattle.varint.specs.Leb.{readU64}
@@ -37,8 +37,8 @@ use Rattle.cell.specs.PaperValue.{paperValue, paperAsked}
 use Rattle.cell.specs.declared.value.Value.{Value}
 use Rattle.cell.specs.declared.value.Value.the-variants as Val
 use Rattle.cell.specs.declared.value.Asked.the-variants as Ask
-use Rattle.cell.proofs.Columns.{columns-step}
-use Rattle.cell.proofs.Heads.{frame-number}
+use Rattle.cell.proofs.Columns.{reading, first-of, columns-step}
+use Rattle.cell.proofs.Heads.{columns-length, frame-number}
 
 -- ---- the float of a pattern
 
@@ -246,48 +246,6 @@ module _ (body : List ℕ) (at shift : ℕ) (b : HasBlock body at) where
 
 -- ---- the block of a column
 
--- what is read at a place for a column
-abbrev reading : ℕ → ℕ → List ℕ → ℕ → Answer (Block × ℕ)
-reading c map body at = pick (isNull body map c) (gives (null, at)) (block body at)
-
--- the first of some columns, and the others
-record First (n c map : ℕ) (body : List ℕ) (at : ℕ) (bs : List Block) (end : ℕ) : Type 0 where
-  pub head : Block
-  pub next : ℕ
-  pub tail : List Block
-  pub read : gives (head, next) ≡ reading c map body at
-  pub more : gives (tail, end) ≡ columns n (c + 1) map body next
-  pub parts : head ∷ tail ≡ bs
-
-first-of : (n c map : ℕ) (body : List ℕ) (at : ℕ) {bs : List Block} {end : ℕ} → gives (bs, end) ≡ columns (suc n) c map body at
-    → First n c map body at bs end
-unfolding columns andThen
-first-of n c map body at {bs} {end} g = by (reading c map body at) refl (sym g)
-  where
-    by2 : (p : Block × ℕ) → reading c map body at ≡ gives p → (a : Answer (List Block × ℕ)) → columns n (c + 1) map body (p .1) ≡ a
-        → andThen {B = List Block × ℕ} a (λ (cs, x). gives (p .0 ∷ cs, x)) ≡ gives (bs, end) → First n c map body at bs end
-    by2 p r (gives q) h g =
-        let d : p .0 ∷ q .0 ≡ bs = ap first (gives-one g) in
-        let e : q .1 ≡ end = ap second (gives-one g) in
-        record { head = p .0; next = p .1; tail = q .0; read = sym r; more = rw (← e) (sym h); parts = d }
-    by2 p r (refuses k) h g = absurd (gives-refuses (sym g))
-
-    by : (a : Answer (Block × ℕ)) → reading c map body at ≡ a
-        → andThen {B = List Block × ℕ} a (λ (b, next). andThen (columns n (c + 1) map body next) (λ (cs, x). gives (b ∷ cs, x)))
-        ≡ gives (bs, end)
-        → First n c map body at bs end
-    by (gives p) r g = by2 p r (columns n (c + 1) map body (p .1)) refl g
-    by (refuses k) r g = absurd (gives-refuses (sym g))
-
--- as many blocks as columns
-pub counted : (n c map : ℕ) (body : List ℕ) (at : ℕ) {bs : List Block} {end : ℕ} → gives (bs, end) ≡ columns n c map body at
-    → length bs ≡ n
-unfolding columns
-counted zero c map body at g = ap (λ (p : List Block × ℕ). length (p .0)) (gives-one g)
-counted (suc n) c map body at g =
-    let f = first-of n c map body at g in
-    rw (← f .parts) (ap suc (counted n (c + 1) map body (f .next) (f .more)))
-
 -- where column i from column c on stands, and that b stands there
 pub record Located (i c map : ℕ) (body : List ℕ) (at : ℕ) (b : Block) : Type 0 where
   pub place : ℕ
@@ -366,7 +324,7 @@ module _ (body : List ℕ) {rowid count map end : ℕ} (k : Locally body rowid c
     unfolding bodyValue andThen
     body-decides =
         let g = k .given l in
-        let e : length (g .blocks) ≡ count = counted count 0 map body (map + bitmapBytes count) (g .walk) in
+        let e : length (g .blocks) ≡ count = columns-length count 0 map body (map + bitmapBytes count) (g .walk) in
         rw (← g .read, e)
 
     pub body-past : count ≤ column → paperAsked (Ask.Refused 12) ≡ bodyValue body shift column

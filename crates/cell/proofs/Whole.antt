@@ -14,7 +14,7 @@ use lib.Seq.{take-add, drop-append-le, length-take-le, getD-take, getD-drop, dro
 use borrow.Author.Tests.{lt-ltb, le-ltb, ltb-false, eqb-true, eqb-false}
 use Rattle.paper.specs.Answer.{Answer, gives, refuses, andThen, pick}
 use Rattle.paper.proofs.Laws.{gives-one, gives-refuses, first, second}
-use Rattle.varint.specs.Leb.{readFrom, readU64, lebBytes}
+use Rattle.varint.specs.Leb.{readFrom, readU64, lebBytes, lenU64}
 use Rattle.varint.specs.Number.{readI64}
 use Rattle.varint.specs.Zigzag.{unzigzag}
 use Rattle.varint.proofs.Laws.{read-is, read-append}
@@ -76,6 +76,23 @@ module _ (s : List ℕ) {n len : ℕ} (w : Framing s n len) (t : List ℕ) where
       let m : length (take len (drop n s)) ≡ len = length-take-le len (drop n s) (rw (length-drop n s) (omega (arith, w .inside))) in
       rw (a, drop-at (take n s) (take len (drop n s) ++ t) n k, take-at (take len (drop n s)) t len m)
 
+-- a body that was written behind its length
+module _ (body : List ℕ) (l : length body < 2 ^ 64) (t : List ℕ) where
+  behind-length : withLength body ++ t ≡ lebBytes (length body) ++ (body ++ t)
+  unfolding withLength
+  behind-length = append-assoc (lebBytes (length body)) body t
+
+  pub written-framed : framed (withLength body ++ t) ≡ gives (lenU64 (length body), length body)
+  unfolding framed andThen pick
+  written-framed =
+      let s : List ℕ = lebBytes (length body) ++ (body ++ t) in
+      let r : length body ≤ length s - lenU64 (length body)
+      = rw (length-append (lebBytes (length body)) (body ++ t), length-append body t) (omega arith) in
+      rw (behind-length, written-read (length body) l (body ++ t), le-ltb (length s - lenU64 (length body)) (length body) r)
+
+  pub written-body : bodyAt (withLength body ++ t) (lenU64 (length body)) (length body) ≡ body
+  written-body = rw (behind-length, drop-append-seam (lebBytes (length body)) (body ++ t), take-append-seam body t)
+
 -- ---- an entry of any kind
 pub record Whole {A : Type 0} (read : List ℕ → Answer A) (s : List ℕ) (a : A) (size : ℕ) : Type 0 where
   pub place : ℕ
@@ -121,20 +138,8 @@ module _ {A : Type 0} (read : List ℕ → Answer A) where
   -- a body that reads, written behind its length
   pub entry-back : (body : List ℕ) {a : A} → length body < 2 ^ 64 → read body ≡ gives a → (t : List ℕ)
       → entry read (withLength body ++ t) ≡ gives (a, length (withLength body))
-  unfolding entry framed withLength andThen pick
-  entry-back body l e t =
-      let k : (lebBytes (length body) ++ body) ++ t ≡ lebBytes (length body) ++ (body ++ t) = append-assoc (lebBytes (length body)) body t in
-      let r : length body ≤ length (lebBytes (length body) ++ (body ++ t)) - length (lebBytes (length body))
-      = rw (length-append (lebBytes (length body)) (body ++ t), length-append body t) (omega arith) in
-      rw (
-        k,
-        written-read (length body) l (body ++ t),
-        le-ltb (length (lebBytes (length body) ++ (body ++ t)) - length (lebBytes (length body))) (length body) r,
-        drop-append-seam (lebBytes (length body)) (body ++ t),
-        take-append-seam body t,
-        e,
-        length-append (lebBytes (length body)) body,
-      )
+  unfolding entry andThen withLength
+  entry-back body l e t = rw (written-framed body l t, written-body body l t, e, length-append (lebBytes (length body)) body)
 
 -- ---- a body that has a kind and a rowid
 pub record HasKey (kind : ℕ) (body : List ℕ) (rowid : ℤ) : Type 0 where
