@@ -21,18 +21,17 @@ use Rattle.cell.specs.Block.{Block, null, integer, real, bool, text, vec
 use Rattle.cell.specs.Content.{contentOf}
 use Rattle.cell.specs.Entry.{framed, bodyAt, entry}
 use Rattle.cell.specs.Local.{blocksAt, rowOf, localBody, cellFrom, moved, nth, valueFrom, valueAt}
-use Rattle.cell.proofs.Blocks.{read-inside}
+use Rattle.cell.proofs.Blocks.{read-inside, unknown}
 use Rattle.cell.proofs.Columns.{first-of}
 use Rattle.cell.proofs.Whole.{framing}
-use Rattle.cell.proofs.ReadWritten.{unknown}
 use Rattle.cell.proofs.Accepting.{not-refused, not-other, stepped}
 
 -- ---- the whole reader's answer
 module _ (buf : List ℕ) (pos : ℕ) where
   -- where the entry is refused, so is each of its columns, by the same number
-  pub entry-refused : {k : ℕ} → cellFrom (drop pos buf) ≡ refuses k → (column : ℕ) → valueAt buf pos column ≡ refuses k
+  pub column-refused : {k : ℕ} → cellFrom (drop pos buf) ≡ refuses k → (column : ℕ) → valueAt buf pos column ≡ refuses k
   unfolding valueAt valueFrom cellFrom entry andThen
-  entry-refused {k} e column = by (framed (drop pos buf)) e
+  column-refused {k} e column = by (framed (drop pos buf)) e
     where
       asked : ℕ → ℤ × List Block → Answer Block
       asked start (rowid, bs) = pick (ltb column (length bs)) (gives (moved (pos + start) (nth bs column))) (refuses 12)
@@ -216,16 +215,16 @@ module _ (buf : List ℕ) (pos column : ℕ) where
       rw (← w .is) (proper-moved buf (pos + w .start) (w .len) (omega arith) (nth (w .blocks) column) i)
 
   -- a text lies inside the caller's slice
-  pub text-inside : {place len : ℕ} → valueAt buf pos column ≡ gives (text place len) → place + len ≤ length buf
-  text-inside e = answer-proper e .0
+  pub text-in-slice : {place len : ℕ} → valueAt buf pos column ≡ gives (text place len) → place + len ≤ length buf
+  text-in-slice e = answer-proper e .0
 
   -- and is well-formed UTF-8
   pub text-well-formed : {place len : ℕ} → valueAt buf pos column ≡ gives (text place len) → wellFormed (take len (drop place buf)) ≡ true
   text-well-formed e = answer-proper e .1
 
   -- a vector lies inside the caller's slice, four bytes to each dimension
-  pub vector-inside : {place dim : ℕ} → valueAt buf pos column ≡ gives (vector place dim) → place + 4 * dim ≤ length buf
-  vector-inside e = answer-proper e
+  pub vector-in-slice : {place dim : ℕ} → valueAt buf pos column ≡ gives (vector place dim) → place + 4 * dim ≤ length buf
+  vector-in-slice e = answer-proper e
 
   -- a float is that of its pattern
   pub real-by-pattern : {float : Float} {bits : ℕ} → valueAt buf pos column ≡ gives (real float bits) → float ≡ ofBits binary64 bits

@@ -20,6 +20,7 @@ use Rattle.cell.specs.Words.{Frame, Locally}
 use Rattle.cell.specs.Paper.{paperHead}
 use Rattle.cell.specs.declared.Head.{Head}
 use Rattle.cell.specs.declared.Decoded.the-variants as D
+use Rattle.cell.proofs.Placing.{rest-all}
 use Rattle.cell.proofs.Columns.{first-of}
 
 -- as many blocks as columns
@@ -29,6 +30,9 @@ columns-length zero c map body at g = ap length (ap first (gives-one g))
 columns-length (suc n) c map body at g =
     let f = first-of n c map body at g in
     rw (← f .parts) (ap suc (columns-length n (c + 1) map body (f .next) (f .more)))
+
+pub local-number : (body : List ℕ) {rowid count map end : ℕ} → Locally body rowid count map end → 2 ^ 63 ≤ end → 2 ^ 64 - 256 ≤ end
+local-number body g l = g .top l
 
 module _ (s : List ℕ) {at end : ℕ} (f : Frame s at end) where
   pub frame-number : 2 ^ 63 ≤ end → 2 ^ 64 - 256 ≤ end
@@ -46,9 +50,6 @@ module _ (s : List ℕ) {at end : ℕ} (f : Frame s at end) where
     frame-ends = f .inside l .1
 
     module _ {rowid count map e : ℕ} (g : Locally (take (end - at) (drop at s)) rowid count map e) where
-      pub local-number : 2 ^ 63 ≤ e → 2 ^ 64 - 256 ≤ e
-      local-number h = g .top h
-
       pub head-refused : {k : ℕ} → 2 ^ 63 ≤ e → k ≡ 2 ^ 64 - 1 - e → paperHead (D.Refused k) ≡ headFrom s
       unfolding paperHead headFrom cellFrom entry andThen
       head-refused h d = rw (← f .given l, ← g .refused h, d)
@@ -68,7 +69,7 @@ module _ (s : List ℕ) (pos : ℕ) where
   head-past l = rw (drop-of-length-le s l)
 
   pub head-at : {a : Answer (ℤ × ℕ × ℕ)} → a ≡ headFrom (take (length s - pos) (drop pos s)) → a ≡ headFrom (drop pos s)
-  head-at e = rw (take-all (length s - pos) (drop pos s) (le-of-eq (length-drop pos s))) at e
+  head-at e = rw (rest-all s pos) at e
 
 pub ruleset heads = (
   needs,

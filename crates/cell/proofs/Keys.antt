@@ -20,6 +20,7 @@ use Rattle.varint.proofs.Places.{at-short, at-long, at-value, at-inside, signed
 use Rattle.cell.specs.Entry.{entry}
 use Rattle.cell.specs.Keyed.{Keyed, PageWord, keyedAt, pageAt}
 use Rattle.cell.specs.Words.{Frame}
+use Rattle.cell.proofs.Placing.{rest-all}
 
 -- ---- the page number
 module _ (body : List ℕ) (at : ℕ) where
@@ -38,7 +39,7 @@ module _ (body : List ℕ) (at : ℕ) where
   pub page-given : {p : ℕ} → length body - at ≡ 4 → p ≡ le 4 0 (take (length body - at) (drop at body)) → Fits w32 p → PageWord body at p
   unfolding pageAt pick
   page-given {p} l e f =
-      let d : p ≡ le 4 (at + 0) body = e ∙ ap (le 4 0) (take-all (length body - at) (drop at body) (le-of-eq (length-drop at body))) ∙ le-drop 4 0 at body in
+      let d : p ≡ le 4 (at + 0) body = e ∙ ap (le 4 0) (rest-all body at) ∙ le-drop 4 0 at body in
       let g : p ≡ le 4 at body = rw (add-zero at) at d in
       let b : p < 2 ^ 32 = f .fits in
       record {

@@ -33,9 +33,10 @@ use Rattle.cell.specs.Entry.{framed, bodyAt, entry, withLength}
 use Rattle.cell.specs.Local.{blocksAt, rowOf, localBody, cellFrom}
 use Rattle.cell.specs.Plain.{Shortest, PlainNumber, PlainBlock, PlainColumns, SpareClear, PlainBody, Plain}
 use Rattle.cell.specs.Written.{blockBytes, blocksBytes, nullBit, nullBits, bitmap, bodyBytes, entryBytes}
+use Rattle.cell.proofs.Blocks.{unknown}
 use Rattle.cell.proofs.Lengths.{bitmap-length}
 use Rattle.cell.proofs.Listed.{Sound, AllSound}
-use Rattle.cell.proofs.ReadWritten.{ShortRow, FineRow, unknown, body-fine, bytes-take, part-most, framed-fits}
+use Rattle.cell.proofs.ReadWritten.{ShortRow, FineRow, body-fine, bytes-take, part-most, framed-fits}
 use Rattle.cell.proofs.Reread.{Stands, Nulled, stands-first, stands-second, stands-head, stands-tail, stands-number, bit-small, byte-at, nulled-from, column-read}
 use Rattle.cell.proofs.Whole.{framing}
 use Rattle.cell.proofs.WrittenRead.{byte-below, bytes-drop}

@@ -37,8 +37,9 @@ use Rattle.cell.specs.PaperValue.{paperValue, paperAsked}
 use Rattle.cell.specs.declared.value.Value.{Value}
 use Rattle.cell.specs.declared.value.Value.the-variants as Val
 use Rattle.cell.specs.declared.value.Asked.the-variants as Ask
+use Rattle.cell.proofs.Placing.{rest-all}
 use Rattle.cell.proofs.Columns.{reading, first-of, columns-step}
-use Rattle.cell.proofs.Heads.{columns-length, frame-number}
+use Rattle.cell.proofs.Heads.{columns-length, frame-number, frame-starts, frame-ends, local-number}
 
 -- ---- the float of a pattern
 
@@ -81,10 +82,6 @@ accepted {A} {a} body at {v} {n} k f g = by (eqb n 0) refl (ltb 10 n) refl
         let d : (n ≡ 0 → ⊥) = eqb-false n 0 z in
         let b : n ≤ 10 = ltb-false 10 n m in
         (rw (← at-value body at f d b) at g, at-inside body at f d b)
-
--- the bytes from a place on, as a part of the slice
-rest : (s : List ℕ) (k : ℕ) → take (length s - k) (drop k s) ≡ drop k s
-rest s k = take-all (length s - k) (drop k s) (le-of-eq (length-drop k s))
 
 -- the block that was read
 block-is : (body : List ℕ) (at : ℕ) {b : Block} {end : ℕ} → gives (b, end) ≡ block body at → b ≡ blockAt body at
@@ -201,13 +198,13 @@ module _ (body : List ℕ) (at shift : ℕ) (b : HasBlock body at) where
     real-start = let h = block-here body at b in omega arith
 
     pub real-inside : 8 ≤ length (take (length body - (at + 1)) (drop (at + 1) body))
-    real-inside = rw (rest body (at + 1), length-drop (at + 1) body) (real-room body at b e)
+    real-inside = rw (rest-all body (at + 1), length-drop (at + 1) body) (real-room body at b e)
 
     pub real-value : {r : Value} {bits : ℕ} → bits ≡ le 8 0 (take (length body - (at + 1)) (drop (at + 1) body))
         → r ≡ Val.Real (ofBits binary64 bits) bits → paperValue r ≡ moved shift (blockAt body at)
     unfolding paperValue moved
     real-value {r} {bits} d q =
-        let p : bits ≡ le 8 (at + 1) body = d ∙ ap (λ (s : List ℕ). le 8 0 s) (rest body (at + 1)) ∙ at-place in
+        let p : bits ≡ le 8 (at + 1) body = d ∙ ap (λ (s : List ℕ). le 8 0 s) (rest-all body (at + 1)) ∙ at-place in
         paper-is {x = real (ofBits binary64 bits) bits} (rw q) (rw p (real-is body at b e))
       where
         at-place : le 8 0 (drop (at + 1) body) ≡ le 8 (at + 1) body
@@ -312,9 +309,6 @@ module _ {body : List ℕ} {count map column : ℕ} (k : HasColumn body count ma
 
 -- ---- the body, and the entry around it
 module _ (body : List ℕ) {rowid count map end : ℕ} (k : Locally body rowid count map end) (shift column : ℕ) where
-  pub body-number : 2 ^ 63 ≤ end → 2 ^ 64 - 256 ≤ end
-  body-number l = k .top l
-
   pub body-refused : {r : ℕ} → 2 ^ 63 ≤ end → r ≡ 2 ^ 64 - 1 - end → paperAsked (Ask.Refused r) ≡ bodyValue body shift column
   unfolding paperAsked bodyValue andThen
   body-refused l d = rw (← k .refused l, d)
@@ -346,12 +340,6 @@ module _ (s : List ℕ) {at end : ℕ} (f : Frame s at end) (pos column : ℕ) w
   frame-refused l d = rw (← f .refused l, d)
 
   module _ (l : end < 2 ^ 63) where
-    pub frame-order : at ≤ end
-    frame-order = let (a, b) = f .inside l in a
-
-    pub frame-inside : end ≤ length s
-    frame-inside = let (a, b) = f .inside l in b
-
     module _ (h : pos + length s < 2 ^ 63) where
       pub body-place : Fits w64 (pos + at)
       body-place = let (a, b) = f .inside l in record { fits = omega arith }
@@ -372,11 +360,11 @@ module _ (buf : List ℕ) (pos column : ℕ) where
   entry-missing l = rw (← at-short buf pos (found-past buf pos l) refl)
 
   pub entry-room : pos < length buf → length buf * 1 < 2 ^ 63 → pos + length (take (length buf - pos) (drop pos buf)) < 2 ^ 63
-  entry-room h b = rw (rest buf pos, length-drop pos buf) (omega arith)
+  entry-room h b = rw (rest-all buf pos, length-drop pos buf) (omega arith)
 
   pub entry-value : {r : Answer Block} → r ≡ valueFrom (take (length buf - pos) (drop pos buf)) pos column → r ≡ valueAt buf pos column
   unfolding valueAt
-  entry-value p = rw (rest buf pos) at p
+  entry-value p = rw (rest-all buf pos) at p
 
 pub ruleset values = (
   needs,
@@ -399,15 +387,15 @@ pub ruleset values = (
   null-value,
   block-there,
   block-value,
-  body-number,
+  local-number,
   body-refused,
   body-past,
   column-of,
   body-value,
   frame-number,
   frame-refused,
-  frame-order,
-  frame-inside,
+  frame-starts,
+  frame-ends,
   body-place,
   body-room,
   frame-value,
