@@ -9,7 +9,7 @@ use lib.Dec.{ltb, eqb}
 use lib.Ieee.{Float, ofBits, binary64}
 use lib.IntN.{ℤ}
 use lib.ListN.{length, take, drop, getD, length-drop, take-append-drop}
-use lib.Seq.{drop-drop, drop-append-le, take-append-le, length-take-le}
+use lib.Seq.{drop-drop, drop-append-le, take-append-le}
 use borrow.Author.Tests.{lt-ltb, le-ltb, ltb-true, ltb-false}
 use Rattle.paper.specs.Answer.{Answer, gives, refuses, andThen, pick}
 use Rattle.paper.proofs.Laws.{gives-one, gives-refuses, refuses-one, first, second}
@@ -23,7 +23,7 @@ use Rattle.cell.specs.Entry.{framed, bodyAt, entry}
 use Rattle.cell.specs.Local.{blocksAt, rowOf, localBody, cellFrom, moved, nth, valueFrom, valueAt}
 use Rattle.cell.proofs.Blocks.{read-inside, unknown}
 use Rattle.cell.proofs.Columns.{first-of}
-use Rattle.cell.proofs.Whole.{framing}
+use Rattle.cell.proofs.Whole.{part-length, framing}
 use Rattle.cell.proofs.Accepting.{not-refused, not-other, stepped}
 
 -- ---- the whole reader's answer
@@ -191,7 +191,7 @@ module _ (buf : List ℕ) (shift len : ℕ) where
 
   module _ (h : shift + len ≤ length buf) where
     body-length : length (take len (drop shift buf)) ≡ len
-    body-length = length-take-le len (drop shift buf) (rw (length-drop shift buf) (omega arith))
+    body-length = part-length len shift buf h
 
     proper-moved : (b : Block) → Proper (take len (drop shift buf)) b → Proper buf (moved shift b)
     unfolding moved

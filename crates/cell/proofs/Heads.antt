@@ -3,11 +3,9 @@
 use mathlib.Core.Path.{_≡_, ap}
 use mathlib.Core.List.{List}
 use Prim.Native.Nat.{ℕ, zero, suc, _+_, _-_, _^_, _≤_, _<_}
-use native.Mathlib.Nat.{le-of-eq}
 use native.Mathlib.Omega.{arith}
 use lib.IntN.{ℤ}
-use lib.ListN.{length, take, drop, length-drop, drop-of-length-le}
-use lib.Seq.{take-all}
+use lib.ListN.{length, take, drop, drop-of-length-le}
 use borrow.Author.Needs.{needs}
 use Rattle.paper.specs.Answer.{Answer, gives, andThen}
 use Rattle.paper.proofs.Laws.{gives-one, first}

@@ -33,12 +33,13 @@ use Rattle.cell.specs.Entry.{framed, bodyAt, entry, withLength}
 use Rattle.cell.specs.Local.{blocksAt, rowOf, localBody, cellFrom}
 use Rattle.cell.specs.Plain.{Shortest, PlainNumber, PlainBlock, PlainColumns, SpareClear, PlainBody, Plain}
 use Rattle.cell.specs.Written.{blockBytes, blocksBytes, nullBit, nullBits, bitmap, bodyBytes, entryBytes}
-use Rattle.cell.proofs.Blocks.{unknown}
+use Rattle.cell.proofs.Blocks.{read-inside, unknown}
 use Rattle.cell.proofs.Lengths.{bitmap-length}
 use Rattle.cell.proofs.Listed.{Sound, AllSound}
+use Rattle.cell.proofs.Nulls.{one-bit}
 use Rattle.cell.proofs.ReadWritten.{ShortRow, FineRow, body-fine, bytes-take, part-most, framed-fits}
 use Rattle.cell.proofs.Reread.{Stands, Nulled, stands-first, stands-second, stands-head, stands-tail, stands-number, bit-small, byte-at, nulled-from, column-read}
-use Rattle.cell.proofs.Whole.{framing}
+use Rattle.cell.proofs.Whole.{part-length, framing}
 use Rattle.cell.proofs.WrittenRead.{byte-below, bytes-drop}
 
 -- ---- bytes that fill a list from a place up to the next
@@ -151,7 +152,7 @@ module _ (body : List ℕ) (at : ℕ) (b : Bytes body) (inside : at < length bod
       by true f (refuses k) = tt
       by true f (gives u) =
           let i : at + 1 + n + len ≤ length body = leb-true (at + 1 + n + len) (length body) f in
-          let k : length (take len (drop (at + 1 + n) body)) ≡ len = length-take-le len (drop (at + 1 + n) body) (rw (length-drop (at + 1 + n) body) (omega arith)) in
+          let k : length (take len (drop (at + 1 + n) body)) ≡ len = part-length len (at + 1 + n) body i in
           rw k (tagged-fills t (fills-both (number-fills body (at + 1) b e (p .text t)) (fills-part body (at + 1 + n) len)), refl)
 
   vector-same : getD body at 0 ≡ 4 → (a : Answer (ℕ × ℕ)) → readU64 body (at + 1) ≡ a
@@ -165,7 +166,7 @@ module _ (body : List ℕ) (at : ℕ) (b : Bytes body) (inside : at < length bod
       by true f = tt
       by false f =
           let i : dim ≤ (length body - (at + 1 + n)) / 4 = ltb-false ((length body - (at + 1 + n)) / 4) dim f in
-          let k : length (take (4 * dim) (drop (at + 1 + n) body)) ≡ 4 * dim = length-take-le (4 * dim) (drop (at + 1 + n) body) (rw (length-drop (at + 1 + n) body) (omega arith)) in
+          let k : length (take (4 * dim) (drop (at + 1 + n) body)) ≡ 4 * dim = part-length (4 * dim) (at + 1 + n) body (omega (arith, read-inside body (at + 1) e)) in
           let d : 4 * dim / 4 ≡ dim = omega arith in
           rw (k, d) (tagged-fills t (fills-both (number-fills body (at + 1) b e (p .vector t)) (fills-part body (at + 1 + n) (4 * dim))), refl)
 
@@ -398,7 +399,7 @@ plain-written s {n} {len} {size} {rowid} {bs} b p f e =
         let c : r ≡ rowid = ap (λ (q : (ℤ × List Block) × ℕ). q .0 .0) (gives-one g) in
         let d : xs ≡ bs = ap (λ (q : (ℤ × List Block) × ℕ). q .0 .1) (gives-one g) in
         let z : n + len ≡ size = ap second (gives-one g) in
-        let l : length (bodyAt s n len) ≡ len = length-take-le len (drop n s) (rw (length-drop n s) (omega (arith, w .inside))) in
+        let l : length (bodyAt s n len) ≡ len = part-length len n s (w .inside) in
         let start : Fills s 0 (lebBytes len) n = rw (zero-add n) at (number-fills s 0 b (w .read) (p .0)) in
         let all = fills-both start (fills-part s n len) in
         let m : length (lebBytes len ++ bodyAt s n len) ≡ n + len
@@ -436,11 +437,6 @@ module _ {s : List ℕ} {at : ℕ} {b : List ℕ} (v : ℕ) (l : v < 2 ^ 64) (w 
   number-plain : PlainNumber s at
   number-plain a e = rw (← gives-one (sym (stands-number v l w) ∙ e)) shortest
 
-byte-low : (b : Bool) → pick b 1 0 ≤ 1
-unfolding pick
-byte-low true = omega arith
-byte-low false = omega arith
-
 module _ {body : List ℕ} {at : ℕ} {t : List ℕ} where
   block-plain : (c : Content) → Sound c → (nullBit c ≡ 1 → ⊥) → Stands body at (blockBytes c) t → PlainBlock body at
   unfolding blockBytes nullBit
@@ -461,7 +457,7 @@ module _ {body : List ℕ} {at : ℕ} {t : List ℕ} where
       record {
         integer = λ e. absurd (omega arith);
         text = λ e. absurd (omega arith);
-        bool = λ _. rw (stands-head (stands-tail w)) (byte-low b);
+        bool = λ _. rw (stands-head (stands-tail w)) (one-bit b);
         vector = λ e. absurd (omega arith);
       }
   block-plain (letters v) s z w =

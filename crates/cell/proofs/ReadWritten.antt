@@ -9,13 +9,13 @@ use native.Mathlib.Omega.{arith}
 use lib.Dec.{ltb, leb, eqb}
 use lib.Ieee.{ofBits, binary64}
 use lib.IntN.{ℤ}
-use lib.ListN.{length, take, drop, getD, length-append, length-drop, length-map}
+use lib.ListN.{length, take, drop, getD, length-append, length-map}
 use lib.Seq.{length-take-le}
 use mir.Syntax.{w64}
 use mir.Val.{SFits}
-use borrow.Author.Tests.{ltb-false, leb-true, eqb-true, ne-eqb}
+use borrow.Author.Tests.{ltb-false, leb-true, eqb-true}
 use Rattle.paper.specs.Answer.{Answer, gives, refuses, andThen, pick}
-use Rattle.paper.proofs.Laws.{gives-one, gives-refuses, second}
+use Rattle.paper.proofs.Laws.{gives-one, gives-refuses}
 use Rattle.field.specs.Field.{le}
 use Rattle.field.proofs.Storing.{length-bytes}
 use Rattle.varint.specs.Leb.{lebBytes, lenU64, groups, readFrom, readU64}
@@ -32,11 +32,11 @@ use Rattle.cell.specs.Content.{Content, contentOf}
 use Rattle.cell.specs.Entry.{framed, bodyAt, entry}
 use Rattle.cell.specs.Local.{blocksAt, rowOf, localBody, cellFrom}
 use Rattle.cell.specs.Written.{blockBytes, blocksBytes, bitmap, bodyBytes}
-use Rattle.cell.proofs.Blocks.{unknown}
+use Rattle.cell.proofs.Blocks.{read-inside, unknown}
 use Rattle.cell.proofs.Lengths.{bitmap-length}
 use Rattle.cell.proofs.Listed.{Sound, AllSound}
 use Rattle.cell.proofs.Reread.{Reread, row-reread}
-use Rattle.cell.proofs.Whole.{framing}
+use Rattle.cell.proofs.Whole.{part-length, framing}
 use Rattle.cell.proofs.WrittenRead.{bytes-drop, le-below}
 
 -- ---- a number that was read is written in no more bytes
@@ -101,7 +101,7 @@ module _ (body : List ℕ) (at : ℕ) (b : Bytes body) where
       by true f (gives u) g =
           let (h, l) = number-fine e in
           let i : at + 1 + n + len ≤ length body = leb-true (at + 1 + n + len) (length body) f in
-          let k : length (take len (drop (at + 1 + n) body)) ≡ len = length-take-le len (drop (at + 1 + n) body) (rw (length-drop (at + 1 + n) body) (omega arith)) in
+          let k : length (take len (drop (at + 1 + n) body)) ≡ len = part-length len (at + 1 + n) body i in
           let m = length-append (lebBytes len) (take len (drop (at + 1 + n) body)) in
           record { sound = (g, rw k h); size = rw k (omega arith) }
 
@@ -117,7 +117,7 @@ module _ (body : List ℕ) (at : ℕ) (b : Bytes body) where
       by false f =
           let (h, l) = number-fine e in
           let i : dim ≤ (length body - (at + 1 + n)) / 4 = ltb-false ((length body - (at + 1 + n)) / 4) dim f in
-          let k : length (take (4 * dim) (drop (at + 1 + n) body)) ≡ 4 * dim = length-take-le (4 * dim) (drop (at + 1 + n) body) (rw (length-drop (at + 1 + n) body) (omega arith)) in
+          let k : length (take (4 * dim) (drop (at + 1 + n) body)) ≡ 4 * dim = part-length (4 * dim) (at + 1 + n) body (omega (arith, read-inside body (at + 1) e)) in
           let d : 4 * dim / 4 ≡ dim = omega arith in
           let m = length-append (lebBytes dim) (take (4 * dim) (drop (at + 1 + n) body)) in
           record { sound = rw (k, d) (refl, h); size = rw (k, d) (omega arith) }

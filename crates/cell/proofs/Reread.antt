@@ -157,22 +157,19 @@ bit-small (truth b) = omega arith
 bit-small (letters t) = omega arith
 bit-small (floats v) = omega arith
 
+no-column : {c : Content} {ds : List Content} → [] ≡ c ∷ ds → ⊥
+no-column e = let z : _≡_ {A = ℕ} 0 1 = cc in omega arith
+
 -- bit j is that of column j
 bit-at : (k j : ℕ) (cs : List Content) (c : Content) (ds : List Content) → j < k → drop j cs ≡ c ∷ ds → nullBits (take k cs) / 2 ^ j % 2 ≡ nullBit c
 unfolding nullBits
 bit-at zero j cs c ds h e = absurd (omega arith)
-bit-at (suc k) zero [] c ds h e = absurd (never e)
-  where
-    never : [] ≡ c ∷ ds → ⊥
-    never f = let z : _≡_ {A = ℕ} 0 1 = cc in omega arith
+bit-at (suc k) zero [] c ds h e = absurd (no-column e)
 bit-at (suc k) zero (x ∷ cs) c ds h e =
     let d : x ≡ c = cc in
     let o : (nullBit x + 2 * nullBits (take k cs)) / 1 ≡ nullBit x + 2 * nullBits (take k cs) = div-one (nullBit x + 2 * nullBits (take k cs)) in
     rw (o, d) (omega (arith, bit-small c))
-bit-at (suc k) (suc j) [] c ds h e = absurd (never e)
-  where
-    never : [] ≡ c ∷ ds → ⊥
-    never f = let z : _≡_ {A = ℕ} 0 1 = cc in omega arith
+bit-at (suc k) (suc j) [] c ds h e = absurd (no-column e)
 bit-at (suc k) (suc j) (x ∷ cs) c ds h e =
     let n : ℕ = nullBit x + 2 * nullBits (take k cs) in
     let f : n / 2 ^ 1 / 2 ^ j ≡ n / 2 ^ (1 + j) = shr-shr n 1 j in
