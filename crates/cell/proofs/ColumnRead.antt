@@ -23,6 +23,7 @@ use Rattle.cell.specs.Entry.{framed, bodyAt, entry}
 use Rattle.cell.specs.Local.{blocksAt, rowOf, localBody, cellFrom, moved, nth, valueFrom, valueAt}
 use Rattle.cell.proofs.Blocks.{read-inside, unknown}
 use Rattle.cell.proofs.Columns.{first-of}
+use Rattle.cell.proofs.Bodies.{blocks-read}
 use Rattle.cell.proofs.Whole.{part-length, framing}
 use Rattle.cell.proofs.Accepting.{not-refused, not-other, stepped}
 
@@ -149,12 +150,7 @@ module _ (body : List ℕ) where
       rw (← f .parts) (columns-proper n (c + 1) place (f .next) i (f .more))
 
   blocks-proper : (count at i : ℕ) {bs : List Block} → blocksAt count body at ≡ gives bs → Proper body (nth bs i)
-  unfolding blocksAt
-  blocks-proper count at i e =
-      let (a, ea) = not-refused (ltb (length body - at) (bitmapBytes count)) 6 _ e in
-      let w = stepped (columns count 0 at body (at + bitmapBytes count)) _ ea in
-      let (b, eb) = not-other (eqb (w .given .1) (length body)) 10 _ (w .second) in
-      rw (← gives-one eb) (columns-proper count 0 at (at + bitmapBytes count) i (sym (w .first)))
+  blocks-proper count at i e = columns-proper count 0 at (at + bitmapBytes count) i (blocks-read count body at e .walk)
 
   row-proper : {rowid : ℤ} {bs : List Block} → rowOf body ≡ gives (rowid, bs) → (i : ℕ) → Proper body (nth bs i)
   unfolding rowOf
