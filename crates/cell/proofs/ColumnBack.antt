@@ -5,8 +5,8 @@ use mathlib.Core.List.{List, [], _++_, append-assoc}
 use Prim.Native.Nat.{ℕ, _+_, _≤_, _<_}
 use lib.Dec.{ltb}
 use lib.IntN.{ℤ}
-use lib.ListN.{length, take, drop, getD, length-map, List·getD-map}
-use lib.Seq.{drop-drop, drop-append-seam}
+use lib.ListN.{length, drop, getD, length-map, List·getD-map}
+use lib.Seq.{drop-append-seam}
 use mir.Syntax.{w64}
 use mir.Val.{SFits}
 use Rattle.paper.specs.Answer.{gives, refuses, andThen, over, put}
@@ -15,7 +15,7 @@ use Rattle.varint.specs.Leb.{lenU64}
 use Rattle.varint.specs.Standard.{Bytes}
 use Rattle.cell.specs.Block.{Block, null}
 use Rattle.cell.specs.Content.{Content, none, contentOf}
-use Rattle.cell.specs.Entry.{framed, fitted}
+use Rattle.cell.specs.Entry.{framed, bodyAt, fitted}
 use Rattle.cell.specs.Local.{cellFrom, headFrom, moved, nth, valueAt}
 use Rattle.cell.specs.ValueList.{valueList}
 use Rattle.cell.specs.Written.{bodyBytes, entryBytes, encoded, writeCell}
@@ -23,7 +23,7 @@ use Rattle.cell.proofs.Accepting.{not-refused, stepped}
 use Rattle.cell.proofs.Whole.{written-framed, written-body}
 use Rattle.cell.proofs.Reread.{Reread}
 use Rattle.cell.proofs.WrittenRead.{written-read}
-use Rattle.cell.proofs.ColumnRead.{Proper, column-given, column-past, body-read, body-proper, content-moved}
+use Rattle.cell.proofs.ColumnRead.{column-given, column-past, column-holds}
 
 -- the column is answered, and the answer's content, taken from the caller's slice, is this
 pub record Answers (buf : List ℕ) (pos column : ℕ) (content : Content) : Type 0 where
@@ -56,20 +56,16 @@ module _ (before behind : List ℕ) {rowid : ℤ} {cs : List Content} (w : Rerea
   count : length (w .blocks) ≡ length cs
   count = sym (length-map (w .blocks) (contentOf body)) ∙ ap length (w .same)
 
-  in-slice : take (length body) (drop (length before + start) slice) ≡ body
+  body-is : bodyAt (drop (length before) slice) start (length body) ≡ body
   unfolding entryBytes
-  in-slice =
-      ap (take (length body)) (sym (drop-drop start (length before) slice) ∙ ap (drop start) from-entry) ∙ written-body body (w .small) behind
+  body-is = rw from-entry (written-body body (w .small) behind)
 
   module _ (column : ℕ) where
     holds-content : contentOf slice (moved (length before + start) (nth (w .blocks) column)) ≡ getD cs column none
     unfolding contentOf nth
     holds-content =
-        let b : Block = nth (w .blocks) column in
-        let p : List ℕ = take (length body) (drop (length before + start) slice) in
-        let i : Proper p b = rw (← drop-drop start (length before) slice) (body-proper _ (body-read slice (length before) frame read) column) in
-        content-moved slice (length before + start) (length body) b i
-        ∙ rw in-slice (sym (List·getD-map (contentOf body) (w .blocks) column null) ∙ ap (λ (xs : List Content). getD xs column none) (w .same))
+        column-holds slice (length before) frame read column
+        ∙ rw body-is (sym (List·getD-map (contentOf body) (w .blocks) column null) ∙ ap (λ (xs : List Content). getD xs column none) (w .same))
 
     pub reread-column : column < length cs → Answers slice (length before) column (getD cs column none)
     reread-column l =

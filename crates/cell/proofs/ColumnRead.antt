@@ -49,7 +49,7 @@ module _ (buf : List ℕ) (pos : ℕ) where
 
   module _ {start len size : ℕ} {rowid : ℤ} {bs : List Block} (f : framed (drop pos buf) ≡ gives (start, len))
       (e : cellFrom (drop pos buf) ≡ gives ((rowid, bs), size)) where
-    pub body-read : localBody (bodyAt (drop pos buf) start len) ≡ gives (rowid, bs)
+    body-read : localBody (bodyAt (drop pos buf) start len) ≡ gives (rowid, bs)
     unfolding cellFrom entry andThen
     body-read =
         let w = stepped (localBody (bodyAt (drop pos buf) start len)) (λ row. gives (row, start + len)) (rw f at e) in
@@ -99,7 +99,7 @@ comes-from buf pos column e =
 
 -- ---- what a block that was read is, in the list that it was read from: a text is text and lies inside, a vector lies inside, and a
 -- float is that of its pattern
-abbrev pub Proper : List ℕ → Block → Type 0
+abbrev Proper : List ℕ → Block → Type 0
 Proper s null = Unit {0}
 Proper s (integer v) = Unit {0}
 Proper s (real float bits) = float ≡ ofBits binary64 bits
@@ -160,7 +160,7 @@ module _ (body : List ℕ) where
       let x = stepped (blocksAt (w .given .0) body (1 + v .given .1 + w .given .1)) _ (w .second) in
       rw (← ap second (gives-one (x .second))) (blocks-proper (w .given .0) (1 + v .given .1 + w .given .1) i (x .first))
 
-  pub body-proper : {rowid : ℤ} {bs : List Block} → localBody body ≡ gives (rowid, bs) → (i : ℕ) → Proper body (nth bs i)
+  body-proper : {rowid : ℤ} {bs : List Block} → localBody body ≡ gives (rowid, bs) → (i : ℕ) → Proper body (nth bs i)
   unfolding localBody
   body-proper e i =
       let (a, ea) = not-refused (eqb (length body) 0) 4 _ e in
@@ -176,7 +176,7 @@ module _ (buf : List ℕ) (shift len : ℕ) where
       = sym (drop-drop at shift buf) ∙ ap (drop at) (sym (take-append-drop len (drop shift buf))) ∙ drop-append-le at body (drop len (drop shift buf)) (omega arith) in
       rw e (take-append-le n (drop at body) (drop len (drop shift buf)) (rw (length-drop at body) (omega arith)))
 
-  pub content-moved : (b : Block) → Proper (take len (drop shift buf)) b → contentOf buf (moved shift b) ≡ contentOf (take len (drop shift buf)) b
+  content-moved : (b : Block) → Proper (take len (drop shift buf)) b → contentOf buf (moved shift b) ≡ contentOf (take len (drop shift buf)) b
   unfolding moved contentOf
   content-moved null i = refl
   content-moved (integer v) i = refl
@@ -197,6 +197,15 @@ module _ (buf : List ℕ) (shift len : ℕ) where
     proper-moved (bool b) i = tt
     proper-moved (text at n) i = (omega (arith, i .0, body-length), rw (part-moved at n (i .0)) (i .1))
     proper-moved (vector at dim) i = omega (arith, i, body-length)
+
+-- what the answer holds, taken from the caller's slice, is what its block holds in the body
+pub column-holds : (buf : List ℕ) (pos : ℕ) {start len size : ℕ} {rowid : ℤ} {bs : List Block} → framed (drop pos buf) ≡ gives (start, len)
+    → cellFrom (drop pos buf) ≡ gives ((rowid, bs), size)
+    → (column : ℕ) → contentOf buf (moved (pos + start) (nth bs column)) ≡ contentOf (bodyAt (drop pos buf) start len) (nth bs column)
+column-holds buf pos {start} {len} {bs = bs} f e column =
+    let d : drop (pos + start) buf ≡ drop start (drop pos buf) = sym (drop-drop start pos buf) in
+    let i : Proper (take len (drop (pos + start) buf)) (nth bs column) = rw d (body-proper _ (body-read buf pos f e) column) in
+    content-moved buf (pos + start) len (nth bs column) i ∙ ap (λ (s : List ℕ). contentOf (take len s) (nth bs column)) d
 
 -- ---- what is answered
 module _ (buf : List ℕ) (pos column : ℕ) where
