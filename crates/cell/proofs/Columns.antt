@@ -153,9 +153,6 @@ module _ {body : List ℕ} {map count start : ℕ} where
     unfolding bitmapBytes
     walking-index t r = omega arith
 
-    pub walking-inside : at ≤ length body
-    walking-inside = w .inside
-
     module _ (t : c < count) {next : ℕ} (k : Coded (columnEnd body map c at) next) where
       walking-step : columnsEnd count 0 map body start ≡ andThen (columnEnd body map c at) (λ e. columnsEnd (count - (c + 1)) (c + 1) map body e)
       walking-step =
@@ -200,7 +197,6 @@ pub ruleset walks = (
   column-block,
   walking-start,
   walking-index,
-  walking-inside,
   walking-refused,
   walking-more,
   walking-end,

@@ -28,12 +28,8 @@ use Rattle.cell.proofs.Numbers.{leb-most}
 use Rattle.cell.proofs.BlockWriting.{blocks, held-none}
 
 -- ---- lengths
-module _ (value : ℕ) where
-  pub len-is : {r : ℕ} → r ≡ lenU64 value → r ≡ length (lebBytes value)
-  len-is e = e
-
-  pub len-most : {r : ℕ} → r ≡ lenU64 value → r ≤ 10
-  len-most e = rw (len-is e) (leb-most value)
+pub len-most : (value : ℕ) {r : ℕ} → r ≡ lenU64 value → r ≤ 10
+len-most value e = rw e (leb-most value)
 
 module _ (kind word : ℕ) where
   pub len-none : 4 < kind → 0 ≡ blockLen kind word
@@ -167,7 +163,6 @@ module _ (kind word from : ℕ) (s : List ℕ) where
 
 pub ruleset judging = (
   blocks,
-  len-is,
   len-most,
   len-none,
   len-integer,

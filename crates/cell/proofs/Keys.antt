@@ -111,4 +111,4 @@ module _ {A : Type 0} (read : List ℕ → Answer A) (s : List ℕ) {at end : �
         let n : at + (end - at) ≡ end = omega arith in
         rw (← f .given l, ← g, n)
 
-pub ruleset keys = (needs, at-inside, page-cut, page-left, page-given, key-empty, key-other, key-short, key-long, key-given)
+pub ruleset keys = (needs, page-cut, page-left, page-given, key-empty, key-other, key-short, key-long, key-given)

@@ -101,7 +101,6 @@ pub ruleset placing = (
   needs,
   set-first,
   then-over,
-  length-over,
   storing-start,
   storing-inside,
   storing-more,

@@ -157,9 +157,6 @@ module _ {id : ℕ} {kinds words rest : List ℕ} {r s : ℕ} (m : Measures id k
   pub entry-fits : {l : ℕ} → l ≤ 10 → Fits w64 (l + s)
   entry-fits h = let g = m .good z in record { fits = omega arith }
 
-pub entry-room : (s n : ℕ) {l : ℕ} → l ≡ length (lebBytes s) → l + s ≤ n → length (lebBytes s) + s ≤ n
-entry-room s n e l = omega arith
-
 module _ (rowid : ℤ) (f : SFits w64 rowid) {id : ℕ} (i : id ≡ zigzag (toZ w64 (ofZ w64 rowid))) (kinds words rest : List ℕ) where
   module _ {r s : ℕ} (m : Measures id kinds words rest r s) where
     module _ (z : r ≡ 0 → ⊥) where
@@ -240,7 +237,6 @@ pub ruleset writing = (
   entry-output,
   entry-good,
   entry-fits,
-  entry-room,
   refused-size,
   refused-write,
   refused-output,
