@@ -101,6 +101,7 @@ pub ruleset placing = (
   needs,
   set-first,
   then-over,
+  length-over,
   storing-start,
   storing-inside,
   storing-more,
