@@ -30,9 +30,6 @@ module _ (body : List ℕ) (count map : ℕ) {b : ℕ} (e : b ≡ bitmapBytes co
   body-short l d = coded-refusal {k = 6} (rw (lt-ltb (length body - map) (bitmapBytes count) (rw e at l))) (omega arith) d
 
   module _ (l : b ≤ length body - map) where
-    pub bitmap-inside : map ≤ length body → map + bitmapBytes count ≤ length body
-    bitmap-inside h = omega arith
-
     module _ {end : ℕ} (k : Coded (columnsEnd count 0 map body (map + b)) end) where
       -- the end decides, by the columns' own answer
       columns-decide : bodyEnd count body map ≡ andThen (columnsEnd count 0 map body (map + b)) (λ x. pick (eqb x (length body)) (gives (length body)) (refuses 10))
@@ -207,7 +204,6 @@ pub ruleset bodies = (
   needs,
   at-inside,
   body-short,
-  bitmap-inside,
   body-refused,
   body-ends,
   body-left,

@@ -10,19 +10,18 @@ use mir.Val.{SFits, ofZ, toZ}
 use mir.ValLaws.{toZ-ofZ}
 use Rattle.varint.specs.Zigzag.{zigzag}
 use lib.ListN.{length, take, drop, set}
-use borrow.Author.Tests.{lt-ltb, le-ltb}
 use borrow.Rule.Slice.PartMut.{putMid}
-use Rattle.paper.specs.Answer.{pick, over, put, sizeOf}
+use Rattle.paper.specs.Answer.{over}
 use Rattle.field.specs.Field.{bytes}
 use Rattle.field.proofs.Storing.{length-bytes}
 use Rattle.varint.specs.Leb.{lebBytes}
-use Rattle.varint.specs.Paper.{paperWrote}
 use Rattle.varint.specs.declared.Wrote.the-variants as W
 use Rattle.varint.proofs.Limits.{groups-last}
-use Rattle.cell.specs.Entry.{withLength, fitted}
+use Rattle.cell.specs.Entry.{withLength}
 use Rattle.cell.specs.Keyed.{keyOf, overAt}
 pub use Rattle.cell.proofs.Numbers.{leb-most}
 use Rattle.cell.proofs.Placing.{lent, then-over, over-then, placing}
+pub use Rattle.cell.proofs.Placing.{short-size, short-output, whole-size, whole-output}
 
 pub two-first : (out : List ℕ) (a b : ℕ) → 2 ≤ length out → set (set out 0 a) 1 b ≡ over out (a ∷ b ∷ [])
 unfolding over
@@ -44,23 +43,6 @@ page-output out at page {new} l e = lent out at (bytes 4 page) {new = new} (rw (
 pub short-length : (body : List ℕ) → length body < 128 → withLength body ≡ length body ∷ body
 unfolding withLength lebBytes
 short-length body l = rw (groups-last 9 (length body) l)
-
-module _ (out entry : List ℕ) {n : ℕ} (e : length entry ≡ n) where
-  pub short-size : length out < n → paperWrote (W.Refused 16) ≡ sizeOf (fitted (length out) entry)
-  unfolding paperWrote sizeOf fitted pick
-  short-size l = rw (lt-ltb (length out) (length entry) (rw e l))
-
-  pub short-output : length out < n → out ≡ put out (fitted (length out) entry)
-  unfolding put fitted pick
-  short-output l = rw (lt-ltb (length out) (length entry) (rw e l))
-
-  pub whole-size : n ≤ length out → paperWrote (W.Bytes n) ≡ sizeOf (fitted (length out) entry)
-  unfolding paperWrote sizeOf fitted pick
-  whole-size l = rw (le-ltb (length out) (length entry) (rw e l), e)
-
-  pub whole-output : n ≤ length out → over out entry ≡ put out (fitted (length out) entry)
-  unfolding put fitted pick
-  whole-output l = rw (le-ltb (length out) (length entry) (rw e l))
 
 -- ---- the parts of an entry that ends in a page number
 pub key-length : (size kind rowid : ℕ) → length (keyOf size kind rowid) ≡ 2 + length (lebBytes rowid)

@@ -66,7 +66,7 @@ module _ {kinds : List ℕ} {byte c : ℕ} (w : Nulls kinds byte c) where
         let e : byte ≡ kindBits (drop c kinds) = w .same in
         omega arith
 
-    pub nulls-inside : c - 1 < length kinds
+    nulls-inside : c - 1 < length kinds
     nulls-inside = omega (arith, w .inside)
 
     pub nulls-double : Fits w8 (2 * byte)
@@ -142,7 +142,6 @@ pub ruleset nulls = (
   bit-other,
   nulls-start,
   nulls-end,
-  nulls-inside,
   nulls-double,
   nulls-fit,
   nulls-more,
