@@ -18,7 +18,9 @@ use Rattle.cell.specs.Written.{blockBytes, blocksBytes, nullBit, nullBits, bitm
 use Rattle.cell.specs.Keyed.{keyedAt, pageAt, keyedBytes}
 use Rattle.overflow.specs.Reference.{referenceBody, referenceFrom, referenceBytes, writeReference}
 use Rattle.interior_page.specs.InteriorCells.{interiorBody, interiorFrom, interiorBytes, writeInterior}
-use Rattle.cases.specs.Question.{Row, says, inNumbers, eights}
+use Rattle.seremonek.specs.Interface.{two, signedOne, signedThree, valueThree}
+use Rattle.seremonek.specs.Keyed.{referenceWords, interiorWords}
+use Rattle.cases.specs.Question.{Row, says, eights}
 use Rattle.cases.specs.Rows.{rows}
 
 abbrev pub said : List Row → List (Answer (List ℕ))
@@ -30,5 +32,5 @@ answers [] = []
 answers (r ∷ rs) = r .answer ∷ answers rs
 
 pub every-row : said rows ≡ answers rows
-unfolding rows says andThen pick taken sumFrom readFrom readU64 groups lebBytes writeU64 zigzag unzigzag readI64 inNumbers eights bytes table inside begun after whole completes wellFormed checkText checkAt framed entry blockOf block isNull bitmapBytes columns blocksAt rowOf localBody cellFrom headFrom moved nth valueFrom valueAt item items wordsOf valueList blockBytes blocksBytes nullBit nullBits bitmap bodyBytes entryBytes encoded writeCell keyedAt pageAt withLength keyedBytes fitted referenceBody referenceFrom referenceBytes writeReference interiorBody interiorFrom interiorBytes writeInterior
+unfolding rows says andThen pick taken sumFrom readFrom readU64 groups lebBytes writeU64 zigzag unzigzag readI64 two signedOne signedThree valueThree referenceWords interiorWords eights bytes table inside begun after whole completes wellFormed checkText checkAt framed entry blockOf block isNull bitmapBytes columns blocksAt rowOf localBody cellFrom headFrom moved nth valueFrom valueAt item items wordsOf valueList blockBytes blocksBytes nullBit nullBits bitmap bodyBytes entryBytes encoded writeCell keyedAt pageAt withLength keyedBytes fitted referenceBody referenceFrom referenceBytes writeReference interiorBody interiorFrom interiorBytes writeInterior
 every-row = refl

@@ -3,17 +3,16 @@
 use Prim.Native.Nat.{ℕ}
 use mathlib.Core.List.{List, [], _∷_, _++_}
 use lib.IntN.{ℤ}
-use mir.Syntax.{w64}
-use mir.Val.{ofZ}
-use Rattle.paper.specs.Answer.{Answer, gives, andThen, pick}
+use Rattle.paper.specs.Answer.{Answer, gives, andThen}
 use Rattle.field.specs.Field.{bytes}
 use Rattle.varint.specs.Leb.{readU64, writeU64}
 use Rattle.varint.specs.Zigzag.{zigzag, unzigzag}
-use Rattle.cell.specs.Block.{Block, null, integer, real, bool, text, vector}
 use Rattle.cell.specs.Local.{headFrom, valueAt}
 use Rattle.cell.specs.Written.{writeCell}
 use Rattle.overflow.specs.Reference.{referenceFrom, writeReference}
 use Rattle.interior_page.specs.InteriorCells.{interiorFrom, writeInterior}
+use Rattle.seremonek.specs.Interface.{two, signedOne, signedThree, valueThree}
+use Rattle.seremonek.specs.Keyed.{referenceWords, interiorWords}
 
 pub data Question : Type 0 where
   -- the number at the start of these bytes, and how many it takes
@@ -36,31 +35,26 @@ pub data Question : Type 0 where
   divider : List ℕ → Question
   write-divider : ℤ → ℕ → Question
 
--- a value in numbers: its tag, or 255 for a null; its word; the place of a text's or a vector's bytes
-unfoldable pub inNumbers : Block → List ℕ
-inNumbers null = 255 ∷ 0 ∷ 0 ∷ []
-inNumbers (integer v) = 0 ∷ ofZ w64 v ∷ 0 ∷ []
-inNumbers (real f bits) = 1 ∷ bits ∷ 0 ∷ []
-inNumbers (text at len) = 2 ∷ len ∷ at ∷ []
-inNumbers (bool b) = 3 ∷ pick b 1 0 ∷ 0 ∷ []
-inNumbers (vector at dim) = 4 ∷ dim ∷ at ∷ []
-
 -- words as they are lent: eight bytes each, the lowest first
 unfoldable pub eights : List ℕ → List ℕ
 eights [] = []
 eights (w ∷ ws) = bytes 8 w ++ eights ws
 
+-- in the words of the C interface
+abbrev in-words : {A : Type 0} → (A → List ℕ) → Answer A → Answer (List ℕ)
+in-words words a = andThen a (λ v. gives (words v))
+
 unfoldable pub says : Question → Answer (List ℕ)
-says (read-u64 bytes) = andThen (readU64 bytes 0) (λ (v, n). gives (v ∷ n ∷ []))
+says (read-u64 bytes) = in-words two (readU64 bytes 0)
 says (write-u64 v) = writeU64 v 10
 says (zigzag-encode z) = gives (zigzag z ∷ [])
-says (zigzag-decode u) = gives (ofZ w64 (unzigzag u) ∷ [])
-says (cell-head s) = andThen (headFrom s) (λ (rowid, columns, n). gives (ofZ w64 rowid ∷ columns ∷ n ∷ []))
-says (cell-value s column) = andThen (valueAt s 0 column) (λ v. gives (inNumbers v))
+says (zigzag-decode u) = gives (signedOne (unzigzag u))
+says (cell-head s) = in-words signedThree (headFrom s)
+says (cell-value s column) = in-words valueThree (valueAt s 0 column)
 says (write-cell rowid kinds words rest) = writeCell rowid kinds (eights words) rest 32
-says (reference s) = andThen (referenceFrom s) (λ (r, n). gives (ofZ w64 (r .0) ∷ r .1 ∷ r .2 ∷ n ∷ []))
+says (reference s) = in-words referenceWords (referenceFrom s)
 says (write-reference rowid total page) = writeReference rowid total page 32
-says (divider s) = andThen (interiorFrom s) (λ (c, n). gives (ofZ w64 (c .0) ∷ c .1 ∷ n ∷ []))
+says (divider s) = in-words interiorWords (interiorFrom s)
 says (write-divider rowid child) = writeInterior rowid child 32
 
 -- one row of the table

@@ -1,4 +1,5 @@
--- The cases that document 01 marks with a star, under "Numbers on either side", in its order. Bytes are in hexadecimal.
+-- The cases on numbers and entries that document 01 marks with a star, under "Numbers on either side", in its order. Bytes are in
+-- hexadecimal.
 use Prim.Native.Nat.{ℕ, _-_, _^_}
 use mathlib.Core.List.{List, [], _∷_}
 use lib.IntN.{ℤ, pos, negℤ}

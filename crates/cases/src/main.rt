@@ -14,6 +14,10 @@ fn main() {
     limits();
     text();
     entry();
+    damaged();
+    values();
+    peeks();
+    lists();
     reference();
     paged();
     divider();
@@ -30,6 +34,7 @@ fn unsigned() {
     numbers::read(b"\xFF\xFF\xFF\xFF\xFF\xFF\xFF\xFF\xFF\x80");
     numbers::read(b"\x80");
     numbers::read(b"");
+    numbers::read(b"\x80\x00");
     numbers::write_to_one(127);
     numbers::write_to_one(300);
 }
@@ -70,8 +75,7 @@ fn text() {
     texts::check(b"\xF4\x8F\xBF\xBF");
 }
 
-// Rowid 1, Integer 5, null, Text A, Bool true; read, asked for each column, and written. And its neighbours: the last byte missing, a spare
-// bit, an unknown tag, a null inside a value, a Bool of 2.
+// Rowid 1, Integer 5, null, Text A, Bool true; read, and asked for each column.
 fn entry() {
     let row = *b"\x0B\x01\x02\x04\x02\x00\x0A\x02\x01\x41\x03\x01";
     cells::read(&row);
@@ -80,14 +84,68 @@ fn entry() {
     cells::column(&row, 2);
     cells::column(&row, 3);
     cells::column(&row, 4);
-    cells::read(b"\x0B\x01\x02\x04\x02\x00\x0A\x02\x01\x41\x03");
     cells::read(b"\x0B\x01\x02\x04\xF2\x00\x0A\x02\x01\x41\x03\x01");
-    cells::read(b"\x0B\x01\x02\x04\x02\x05\x0A\x02\x01\x41\x03\x01");
+}
+
+// Each refusal of a local entry, in the order of the checks. The last two are a text and a vector whose end passes the machine word.
+fn damaged() {
+    cells::read(b"");
+    cells::read(b"\xFF\xFF\xFF\xFF\xFF\xFF\xFF\xFF\xFF\x80");
+    cells::read(b"\x0B\x01\x02\x04\x02\x00\x0A\x02\x01\x41\x03");
+    cells::read(b"\x00\x01");
+    cells::read(b"\x01\x02");
+    cells::read(b"\x01\x01\x02");
+    cells::read(b"\x03\x01\x02\x01");
+    cells::read(b"\x04\x01\x02\x01\x00");
+    cells::read(b"\x05\x01\x02\x01\x00\x05");
+    cells::read(b"\x07\x01\x02\x01\x00\x02\x02\x41");
+    cells::read(b"\x07\x01\x02\x01\x00\x02\x01\x80");
+    cells::read(b"\x04\x01\x02\x00\x00");
+    cells::read(b"\x0F\x01\x00\x01\x00\x02\xFF\xFF\xFF\xFF\xFF\xFF\xFF\xFF\xFF\x01");
+    cells::read(b"\x0E\x01\x00\x01\x00\x04\x80\x80\x80\x80\x80\x80\x80\x80\x40");
+}
+
+// A Bool byte above 1; the NaN of pattern 7FF0000000000001; a vector of one number.
+fn values() {
+    cells::column(b"\x06\x01\x02\x01\x00\x03\x02", 0);
+    cells::column(
+        b"\x0D\x01\x02\x01\x00\x01\x01\x00\x00\x00\x00\x00\xF0\x7F",
+        0,
+    );
+    cells::column(b"\x0A\x01\x02\x01\x00\x04\x01\x00\x00\x80\x3F", 0);
+}
+
+// The peeks, which ignore the body length, on either side of each limit; sizes of 2^64 - 1 and of one byte more.
+fn peeks() {
+    cells::kind(b"\x05\x07");
+    cells::kind(b"\x05");
+    cells::rowid(b"\x00\x01\x02");
+    cells::rowid(b"\x00\x01");
+    cells::rowid(b"\x00");
+    cells::size(b"\x05");
+    cells::size(b"\xF5\xFF\xFF\xFF\xFF\xFF\xFF\xFF\xFF\x01");
+    cells::size(b"\xF6\xFF\xFF\xFF\xFF\xFF\xFF\xFF\xFF\x01");
+}
+
+// The row of `entry` written; and each refusal of a value list, in the order of the checks.
+fn lists() {
     let words =
         *b"\x05\x00\x00\x00\x00\x00\x00\x00\x00\x00\x00\x00\x00\x00\x00\x00\x01\x00\x00\x00\x00\x00\x00\x00\x01\x00\x00\x00\x00\x00\x00\x00";
     cells::write(1, b"\x00\xFF\x02\x03", &words, b"A");
-    cells::write(1, b"\x05", b"\x00\x00\x00\x00\x00\x00\x00\x00", b"");
-    cells::write(1, b"\x03", b"\x02\x00\x00\x00\x00\x00\x00\x00", b"");
+    let one = *b"\x01\x00\x00\x00\x00\x00\x00\x00";
+    let two = *b"\x02\x00\x00\x00\x00\x00\x00\x00";
+    cells::write(1, b"\x00", b"\x01", b"");
+    cells::write(1, b"\x00\x00", &one, b"");
+    cells::write(1, b"\x06", &one, b"");
+    cells::write(1, b"\x03", &two, b"");
+    cells::write(1, b"\xFF", &one, b"");
+    cells::write(1, b"\x02", &one, b"");
+    cells::write(1, b"\x04", &one, b"ABC");
+    cells::write(1, b"\x05", &one, b"");
+    cells::write(1, b"\x02", &one, b"\x80");
+    cells::write(1, b"\x02", &one, b"AB");
+    cells::write_to_four(1, b"", b"", b"");
+    cells::write_to_four(1, b"\x03", &one, b"");
 }
 
 // Rowid 7, total 5,000, page 9; and its neighbours: another kind, an empty body, no bytes of the total, one byte of the page missing, one

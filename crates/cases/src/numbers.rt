@@ -2,7 +2,6 @@
 use crate::print;
 use varint::ReadI64;
 use varint::ReadU64;
-use varint::Wrote;
 
 pub fn read(bytes: &[u8]) {
     print::text(b"read");
@@ -56,18 +55,8 @@ pub fn write_to_one(value: u64) {
     let wrote = varint::write_u64(&mut out, value);
     print::text(b"write ");
     print::number(value);
-    written_to_one(wrote, &out);
-}
-
-fn written_to_one(wrote: Wrote, out: &[u8; 1]) {
-    print::text(b" to one byte:");
-    match wrote {
-        Wrote::Bytes(_) => print::text(b" accepted"),
-        Wrote::Refused(number) => print::refused(number),
-    }
-    print::text(b", which leaves");
-    print::byte(out[0]);
-    print::end();
+    print::text(b" to one byte");
+    print::left(wrote, &out);
 }
 
 pub fn zigzag(value: i64) {

@@ -63,6 +63,18 @@ pub fn written(wrote: Wrote, out: &[u8]) {
     end();
 }
 
+// The same for an output of which every byte is shown.
+pub fn left(wrote: Wrote, out: &[u8]) {
+    text(b":");
+    match wrote {
+        Wrote::Bytes(_) => text(b" accepted"),
+        Wrote::Refused(number) => refused(number),
+    }
+    text(b", which leaves");
+    bytes(out);
+    end();
+}
+
 pub fn end() {
     text(b"\n");
 }

@@ -17,12 +17,7 @@ not-other true k x e = (refl, e)
 not-other false k x e = absurd (gives-refuses (sym e))
 
 -- what the first step gave, and the second from it
-pub record Stepped {A B : Type 0} (q : Answer A) (f : A → Answer B) (b : B) : Type 0 where
-  pub given : A
-  pub first : q ≡ gives given
-  pub second : f given ≡ gives b
-
-pub stepped : {A B : Type 0} (q : Answer A) (f : A → Answer B) {b : B} → andThen q f ≡ gives b → Stepped q f b
+pub then-gave : {A B : Type 0} (q : Answer A) (f : A → Answer B) {b : B} → andThen q f ≡ gives b → (a : A) × (q ≡ gives a) × (f a ≡ gives b)
 unfolding andThen
-stepped (gives a) f e = record { given = a; first = refl; second = e }
-stepped (refuses k) f e = absurd (gives-refuses (sym e))
+then-gave (gives a) f e = (a, refl, e)
+then-gave (refuses k) f e = absurd (gives-refuses (sym e))

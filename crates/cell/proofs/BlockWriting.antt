@@ -20,8 +20,7 @@ use Rattle.cell.specs.Content.{none}
 use Rattle.cell.specs.Written.{blockBytes}
 use Rattle.cell.specs.ValueList.{wordsOf}
 use Rattle.cell.specs.Listing.{wordList, used, held, payload}
-use Rattle.cell.proofs.Placing.{set-first, rest-all, length-over, then-over}
-use Rattle.cell.proofs.Numbers.{numbers}
+use Rattle.cell.proofs.Placing.{set-first, rest-all, length-over, then-over, placing}
 
 -- ---- data
 module _ (kind word : ℕ) where
@@ -182,7 +181,7 @@ module _ (kind word : ℕ) where
             rw block-is (then-over out (kind ∷ []) (payload kind word (drop from s)) x new 1 d refl (omega arith) e)
 
 pub ruleset blocks = (
-  numbers,
+  placing,
   paper,
   used-text,
   used-vector,

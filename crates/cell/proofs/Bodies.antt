@@ -21,7 +21,7 @@ use Rattle.cell.specs.Entry.{framed}
 use Rattle.cell.specs.Block.{Block, columns, bitmapBytes}
 use Rattle.cell.specs.Local.{blocksAt, rowOf, localBody}
 use Rattle.cell.specs.Words.{columnsEnd, bodyEnd, RowidAt, Locally, Frame}
-use Rattle.cell.proofs.Accepting.{not-refused, not-other, stepped}
+use Rattle.cell.proofs.Accepting.{not-refused, not-other, then-gave}
 
 -- ---- the bitmap, the columns, and nothing left over
 module _ (body : List ℕ) (count map : ℕ) {b : ℕ} (e : b ≡ bitmapBytes count) where
@@ -70,11 +70,11 @@ pub blocks-read : (count : ℕ) (body : List ℕ) (at : ℕ) {bs : List Block} �
 unfolding blocksAt
 blocks-read count body at {bs} e =
     let (t, g) = not-refused (ltb (length body - at) (bitmapBytes count)) 6 _ e in
-    let w = stepped (columns count 0 at body (at + bitmapBytes count)) _ g in
-    let (u, h) = not-other (eqb (w .given .1) (length body)) 10 _ (w .second) in
-    let d : w .given .1 ≡ length body = eqb-true (w .given .1) (length body) u in
+    let (w, w-is, w-then) = then-gave (columns count 0 at body (at + bitmapBytes count)) _ g in
+    let (u, h) = not-other (eqb (w .1) (length body)) 10 _ (w-then) in
+    let d : w .1 ≡ length body = eqb-true (w .1) (length body) u in
     record {
-      walk = sym (w .first ∙ ap (λ (xs : List Block). gives (xs, w .given .1)) (gives-one h) ∙ ap (λ (x : ℕ). gives (bs, x)) d);
+      walk = sym (w-is ∙ ap (λ (xs : List Block). gives (xs, w .1)) (gives-one h) ∙ ap (λ (x : ℕ). gives (bs, x)) d);
       room = ltb-false (length body - at) (bitmapBytes count) t;
     }
 
@@ -114,12 +114,12 @@ module _ (body : List ℕ) {rowid at : ℕ} (o : RowidAt body rowid at) {v n : �
         refused = λ h. rw (← blocks-refused v body (at + n) (is-refusal k h refl)) at counted;
         top = λ h. is-number k h;
         given = λ h.
-            let x = stepped (blocksAt v body (at + n)) _ (sym (is-place k h)) in
-            let r = blocks-read v body (at + n) (x .first) in
+            let (x, x-is, x-then) = then-gave (blocksAt v body (at + n)) _ (sym (is-place k h)) in
+            let r = blocks-read v body (at + n) (x-is) in
             let i = at-inside body at f z l in
             record {
-              blocks = x .given;
-              read = rw (x .first) at counted;
+              blocks = x;
+              read = rw (x-is) at counted;
               walk = r .walk;
               room = omega (arith, r .room);
             };

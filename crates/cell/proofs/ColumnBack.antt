@@ -19,7 +19,7 @@ use Rattle.cell.specs.Entry.{framed, bodyAt, fitted}
 use Rattle.cell.specs.Local.{cellFrom, headFrom, moved, nth, valueAt}
 use Rattle.cell.specs.ValueList.{valueList}
 use Rattle.cell.specs.Written.{bodyBytes, entryBytes, encoded, writeCell}
-use Rattle.cell.proofs.Accepting.{not-refused, stepped}
+use Rattle.cell.proofs.Accepting.{not-refused, then-gave}
 use Rattle.cell.proofs.Whole.{written-framed, written-body}
 use Rattle.cell.proofs.Reread.{Reread}
 use Rattle.cell.proofs.WrittenRead.{written-read}
@@ -111,9 +111,9 @@ module _ (rowid : ℤ) (kinds words rest out : List ℕ) {cs : List Content} {e 
   encoded-is : encoded rowid kinds words rest ≡ gives e
   unfolding writeCell fitted
   encoded-is =
-      let w = stepped (encoded rowid kinds words rest) (fitted (length out)) written in
-      let (t, g) = not-refused (ltb (length out) (length (w .given))) 16 (gives (w .given)) (w .second) in
-      w .first ∙ g
+      let (w, w-is, w-then) = then-gave (encoded rowid kinds words rest) (fitted (length out)) written in
+      let (t, g) = not-refused (ltb (length out) (length (w))) 16 (gives (w)) (w-then) in
+      w-is ∙ g
 
   pub output-back : (column : ℕ) → column < length cs → Answers (put out (writeCell rowid kinds words rest (length out))) 0 column (getD cs column none)
   unfolding put over

@@ -25,7 +25,7 @@ use Rattle.cell.proofs.Blocks.{read-inside, unknown}
 use Rattle.cell.proofs.Columns.{first-of}
 use Rattle.cell.proofs.Bodies.{blocks-read}
 use Rattle.cell.proofs.Whole.{part-length, framing}
-use Rattle.cell.proofs.Accepting.{not-refused, not-other, stepped}
+use Rattle.cell.proofs.Accepting.{not-refused, not-other, then-gave}
 
 -- ---- the whole reader's answer
 module _ (buf : List ℕ) (pos : ℕ) where
@@ -52,8 +52,8 @@ module _ (buf : List ℕ) (pos : ℕ) where
     body-read : localBody (bodyAt (drop pos buf) start len) ≡ gives (rowid, bs)
     unfolding cellFrom entry andThen
     body-read =
-        let w = stepped (localBody (bodyAt (drop pos buf) start len)) (λ row. gives (row, start + len)) (rw f at e) in
-        w .first ∙ ap gives (ap first (gives-one (w .second)))
+        let (w, w-is, w-then) = then-gave (localBody (bodyAt (drop pos buf) start len)) (λ row. gives (row, start + len)) (rw f at e) in
+        w-is ∙ ap gives (ap first (gives-one (w-then)))
 
     decides : (column : ℕ) → valueAt buf pos column ≡ pick (ltb column (length bs)) (gives (moved (pos + start) (nth bs column))) (refuses 12)
     unfolding valueAt valueFrom andThen
@@ -83,17 +83,17 @@ pub record ComesFrom (buf : List ℕ) (pos column : ℕ) (b : Block) : Type 0 wh
 pub comes-from : (buf : List ℕ) (pos column : ℕ) {b : Block} → valueAt buf pos column ≡ gives b → ComesFrom buf pos column b
 unfolding valueAt valueFrom
 comes-from buf pos column e =
-    let v = stepped (framed (drop pos buf)) _ e in
-    let w = stepped (localBody (bodyAt (drop pos buf) (v .given .0) (v .given .1))) _ (v .second) in
-    let (t, g) = not-other (ltb column (length (w .given .1))) 12 _ (w .second) in
+    let (v, v-is, v-then) = then-gave (framed (drop pos buf)) _ e in
+    let (w, w-is, w-then) = then-gave (localBody (bodyAt (drop pos buf) (v .0) (v .1))) _ (v-then) in
+    let (t, g) = not-other (ltb column (length (w .1))) 12 _ (w-then) in
     record {
-      start = v .given .0;
-      len = v .given .1;
-      rowid = w .given .0;
-      blocks = w .given .1;
-      frame = v .first;
-      read = w .first;
-      one = ltb-true column (length (w .given .1)) t;
+      start = v .0;
+      len = v .1;
+      rowid = w .0;
+      blocks = w .1;
+      frame = v-is;
+      read = w-is;
+      one = ltb-true column (length (w .1)) t;
       is = gives-one g;
     }
 
@@ -111,23 +111,23 @@ module _ (body : List ℕ) where
   tag-proper : (tag at : ℕ) {b : Block} {end : ℕ} → blockOf tag body at ≡ gives (b, end) → Proper body b
   unfolding blockOf pick
   tag-proper zero at e =
-      let w = stepped (readI64 body at) _ e in
-      rw (← ap first (gives-one (w .second))) tt
+      let (w, w-is, w-then) = then-gave (readI64 body at) _ e in
+      rw (← ap first (gives-one (w-then))) tt
   tag-proper (suc zero) at e =
       let (t, g) = not-refused (ltb (length body - at) 8) 7 _ e in
       rw (← ap first (gives-one g)) refl
   tag-proper (suc (suc zero)) at e =
-      let v = stepped (readU64 body at) _ e in
-      let w = stepped (checkAt body (at + v .given .1) (v .given .0)) _ (v .second) in
-      rw (← ap first (gives-one (w .second))) (gives-inside body (at + v .given .1) (v .given .0) (w .first), gives-well-formed body (at + v .given .1) (v .given .0) (w .first))
+      let (v, v-is, v-then) = then-gave (readU64 body at) _ e in
+      let (w, w-is, w-then) = then-gave (checkAt body (at + v .1) (v .0)) _ (v-then) in
+      rw (← ap first (gives-one (w-then))) (gives-inside body (at + v .1) (v .0) (w-is), gives-well-formed body (at + v .1) (v .0) (w-is))
   tag-proper (suc (suc (suc zero))) at e =
       let (t, g) = not-other (ltb at (length body)) 7 _ e in
       rw (← ap first (gives-one g)) tt
   tag-proper (suc (suc (suc (suc zero)))) at e =
-      let v = stepped (readU64 body at) _ e in
-      let (t, g) = not-refused (ltb ((length body - (at + v .given .1)) / 4) (v .given .0)) 7 _ (v .second) in
-      let l : v .given .0 ≤ (length body - (at + v .given .1)) / 4 = ltb-false ((length body - (at + v .given .1)) / 4) (v .given .0) t in
-      let i : at + v .given .1 ≤ length body = read-inside body at (v .first) in
+      let (v, v-is, v-then) = then-gave (readU64 body at) _ e in
+      let (t, g) = not-refused (ltb ((length body - (at + v .1)) / 4) (v .0)) 7 _ (v-then) in
+      let l : v .0 ≤ (length body - (at + v .1)) / 4 = ltb-false ((length body - (at + v .1)) / 4) (v .0) t in
+      let i : at + v .1 ≤ length body = read-inside body at (v-is) in
       rw (← ap first (gives-one g)) (omega arith)
   tag-proper (suc (suc (suc (suc (suc tag))))) at e = absurd (gives-refuses (sym e ∙ unknown (suc (suc (suc (suc (suc tag))))) body at (omega arith)))
 
@@ -155,10 +155,10 @@ module _ (body : List ℕ) where
   row-proper : {rowid : ℤ} {bs : List Block} → rowOf body ≡ gives (rowid, bs) → (i : ℕ) → Proper body (nth bs i)
   unfolding rowOf
   row-proper e i =
-      let v = stepped (readI64 body 1) _ e in
-      let w = stepped (readU64 body (1 + v .given .1)) _ (v .second) in
-      let x = stepped (blocksAt (w .given .0) body (1 + v .given .1 + w .given .1)) _ (w .second) in
-      rw (← ap second (gives-one (x .second))) (blocks-proper (w .given .0) (1 + v .given .1 + w .given .1) i (x .first))
+      let (v, v-is, v-then) = then-gave (readI64 body 1) _ e in
+      let (w, w-is, w-then) = then-gave (readU64 body (1 + v .1)) _ (v-then) in
+      let (x, x-is, x-then) = then-gave (blocksAt (w .0) body (1 + v .1 + w .1)) _ (w-then) in
+      rw (← ap second (gives-one (x-then))) (blocks-proper (w .0) (1 + v .1 + w .1) i (x-is))
 
   body-proper : {rowid : ℤ} {bs : List Block} → localBody body ≡ gives (rowid, bs) → (i : ℕ) → Proper body (nth bs i)
   unfolding localBody

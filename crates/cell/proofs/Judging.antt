@@ -17,7 +17,7 @@ use Rattle.field.proofs.Storing.{length-bytes}
 use Rattle.varint.specs.Leb.{lebBytes, lenU64}
 use Rattle.varint.specs.Zigzag.{zigzag}
 use Rattle.utf8.specs.WellFormed.{checkText, wellFormed}
-use Rattle.utf8.specs.Checked.{paper as paperText}
+use Rattle.utf8.specs.Checked.{paperChecked}
 use Rattle.utf8.specs.declared.Checked.{Checked}
 use Rattle.utf8.specs.declared.Checked.the-variants as C
 use Rattle.cell.specs.Content.{Content, letters}
@@ -73,12 +73,12 @@ block-length (suc (suc (suc (suc (suc kind))))) word rest l =
 
 -- ---- text
 module _ (s : List ℕ) {r : Checked} where
-  pub text-good : paperText r ≡ checkText s → r ≡ C.Text → judged 0 tt ≡ checkText s
-  unfolding judged pick paperText
+  pub text-good : paperChecked r ≡ checkText s → r ≡ C.Text → judged 0 tt ≡ checkText s
+  unfolding judged pick paperChecked
   text-good e h = rw h at e
 
-  pub text-bad : {k : ℕ} → paperText r ≡ checkText s → r ≡ C.Refused k → judged 8 tt ≡ checkText s
-  unfolding judged pick paperText checkText
+  pub text-bad : {k : ℕ} → paperChecked r ≡ checkText s → r ≡ C.Refused k → judged 8 tt ≡ checkText s
+  unfolding judged pick paperChecked checkText
   text-bad {k} e h = by (wellFormed s) (rw h at e)
     where
       by : (t : Bool) → _≡_ {A = Answer (Unit {0})} (refuses k) (pick t (gives tt) (refuses 8)) → _≡_ {A = Answer (Unit {0})} (refuses 8) (pick t (gives tt) (refuses 8))

@@ -15,13 +15,11 @@ use Rattle.paper.specs.Answer.{gives, andThen, pick}
 use Rattle.field.specs.Field.{le, bytes}
 use Rattle.field.proofs.Laws.{le-drop, le-bytes}
 use Rattle.field.proofs.Storing.{length-bytes}
-use Rattle.varint.specs.Leb.{readU64, lebBytes}
+use Rattle.varint.specs.Leb.{lebBytes}
 use Rattle.varint.specs.Number.{readI64, lenI64}
 use Rattle.varint.specs.Zigzag.{zigzag}
-use Rattle.varint.proofs.Standard.{written-read}
 use Rattle.varint.proofs.Zigzag.{signed-written-read}
 use Rattle.cell.specs.Keyed.{keyedAt, pageAt, keyedBytes}
-pub use Rattle.cell.proofs.Whole.{entry-back}
 
 module _ (kind : ℕ) (z : ℤ) (rest : List ℕ) (f : SFits w64 z) where
   pub key-back : keyedAt kind (keyedBytes kind z rest) ≡ gives (z, 1 + length (lebBytes (zigzag z)))
@@ -33,11 +31,6 @@ module _ (kind : ℕ) (z : ℤ) (rest : List ℕ) (f : SFits w64 z) where
   pub key-rest : drop (1 + length (lebBytes (zigzag z))) (keyedBytes kind z rest) ≡ rest
   unfolding keyedBytes
   key-rest = sym (drop-drop (length (lebBytes (zigzag z))) 1 (kind ∷ (lebBytes (zigzag z) ++ rest))) ∙ drop-append-seam (lebBytes (zigzag z)) rest
-
--- a number that stands at a place
-pub number-back : (s : List ℕ) (at v : ℕ) (rest : List ℕ) → v < 2 ^ 64 → drop at s ≡ lebBytes v ++ rest → readU64 s at ≡ gives (v, length (lebBytes v))
-unfolding readU64
-number-back s at v rest l e = rw (e, written-read v l rest)
 
 -- a page number that ends the body
 pub page-back : (s : List ℕ) (at page : ℕ) → page < 2 ^ 32 → at ≤ length s → drop at s ≡ bytes 4 page → pageAt s at ≡ gives page

@@ -26,4 +26,5 @@ pub mod ColumnBack
 pub mod KeyBack
 pub mod ReadWritten
 pub mod PlainWritten
+pub mod KeyAgain
 pub mod Exact

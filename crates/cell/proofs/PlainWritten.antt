@@ -43,19 +43,19 @@ use Rattle.cell.proofs.Whole.{part-length, framing}
 use Rattle.cell.proofs.WrittenRead.{byte-below, bytes-drop}
 
 -- ---- bytes that fill a list from a place up to the next
-record Fills (s : List ℕ) (at : ℕ) (a : List ℕ) (next : ℕ) : Type 0 where
+pub record Fills (s : List ℕ) (at : ℕ) (a : List ℕ) (next : ℕ) : Type 0 where
   pub is : drop at s ≡ a ++ drop next s
 
-fills-both : {s a b : List ℕ} {i j k : ℕ} → Fills s i a j → Fills s j b k → Fills s i (a ++ b) k
+pub fills-both : {s a b : List ℕ} {i j k : ℕ} → Fills s i a j → Fills s j b k → Fills s i (a ++ b) k
 fills-both {s} {a} {b} {k = k} v w = record { is = v .is ∙ ap (λ (l : List ℕ). a ++ l) (w .is) ∙ sym (append-assoc a b (drop k s)) }
 
-fills-byte : (s : List ℕ) (at : ℕ) {x : ℕ} → at < length s → getD s at 0 ≡ x → Fills s at (x ∷ []) (at + 1)
+pub fills-byte : (s : List ℕ) (at : ℕ) {x : ℕ} → at < length s → getD s at 0 ≡ x → Fills s at (x ∷ []) (at + 1)
 fills-byte s at {x} l e =
     let n : suc at ≡ at + 1 = omega arith in
     record { is = drop-cons s at 0 l ∙ rw (e, n) refl }
 
 -- any part is filled by its own bytes
-fills-part : (s : List ℕ) (at n : ℕ) → Fills s at (take n (drop at s)) (at + n)
+pub fills-part : (s : List ℕ) (at n : ℕ) → Fills s at (take n (drop at s)) (at + n)
 fills-part s at n = record { is = rw (← drop-drop n at s) (sym (take-append-drop n (drop at s))) }
 
 -- ---- a number in its shortest form is as it would be written
@@ -66,7 +66,7 @@ exact {bytes} {m} q l t = by (eqb (length bytes) 10) refl
     by true e = let h : length bytes ≡ 10 = eqb-true (length bytes) 10 e in exact-tenth q h (t h)
     by false e = let h = eqb-false (length bytes) 10 e in exact-below-ten q (omega (arith, h))
 
-number-fills : (s : List ℕ) (at : ℕ) {v n : ℕ} → Bytes s → readU64 s at ≡ gives (v, n) → PlainNumber s at → Fills s at (lebBytes v) (at + n)
+pub number-fills : (s : List ℕ) (at : ℕ) {v n : ℕ} → Bytes s → readU64 s at ≡ gives (v, n) → PlainNumber s at → Fills s at (lebBytes v) (at + n)
 unfolding readU64
 number-fills s at {v} {n} b e p =
     let c : Shortest s at v n = p (v, n) e in
@@ -88,7 +88,7 @@ unfolding readFrom taken sumFrom andThen pick lebBytes groups
 tenth-differs = (refl, refl)
 
 -- ---- a field of n bytes is those bytes
-field-fills : (n at : ℕ) (s : List ℕ) → Bytes s → at + n ≤ length s → Fills s at (bytes n (le n at s)) (at + n)
+pub field-fills : (n at : ℕ) (s : List ℕ) → Bytes s → at + n ≤ length s → Fills s at (bytes n (le n at s)) (at + n)
 unfolding bytes
 field-fills zero at s b l = record { is = rw (add-zero at) }
 field-fills (suc n) at s b l =
@@ -434,7 +434,7 @@ module _ {s : List ℕ} {at : ℕ} {b : List ℕ} (v : ℕ) (l : v < 2 ^ 64) (w 
             rw d (group-small 10 9 v l);
       }
 
-  number-plain : PlainNumber s at
+  pub number-plain : PlainNumber s at
   number-plain a e = rw (← gives-one (sym (stands-number v l w) ∙ e)) shortest
 
 module _ {body : List ℕ} {at : ℕ} {t : List ℕ} where

@@ -22,7 +22,7 @@ use Rattle.cell.specs.Entry.{framed, bodyAt, entry, withLength, peekKind
 use Rattle.cell.specs.Block.{Block}
 use Rattle.cell.specs.Keyed.{keyedAt}
 use Rattle.cell.specs.Local.{blocksAt, rowOf, localBody}
-use Rattle.cell.proofs.Accepting.{not-refused, not-other, stepped}
+use Rattle.cell.proofs.Accepting.{not-refused, not-other, then-gave}
 
 -- a part that lies inside is as long as it says
 pub part-length : (n at : ℕ) (s : List ℕ) → at + n ≤ length s → length (take n (drop at s)) ≡ n
@@ -37,13 +37,13 @@ pub record Framing (s : List ℕ) (n len : ℕ) : Type 0 where
 pub framing : (s : List ℕ) {n len : ℕ} → framed s ≡ gives (n, len) → Framing s n len
 unfolding framed
 framing s {n} {len} e =
-    let v = stepped (readFrom s) _ e in
-    let w = read-is s (v .first) in
-    let (t, g) = not-refused (ltb (length s - v .given .1) (v .given .0)) 3 _ (v .second) in
-    let c : v .given .0 ≤ length s - v .given .1 = ltb-false (length s - v .given .1) (v .given .0) t in
-    let a : v .given .1 ≡ n = ap first (gives-one g) in
-    let b : v .given .0 ≡ len = ap second (gives-one g) in
-    record { read = v .first ∙ ap (λ (p : ℕ × ℕ). gives (p .1, p .0)) (gives-one g); some = omega (arith, w .some); inside = omega (arith, w .inside) }
+    let (v, v-is, v-then) = then-gave (readFrom s) _ e in
+    let w = read-is s (v-is) in
+    let (t, g) = not-refused (ltb (length s - v .1) (v .0)) 3 _ (v-then) in
+    let c : v .0 ≤ length s - v .1 = ltb-false (length s - v .1) (v .0) t in
+    let a : v .1 ≡ n = ap first (gives-one g) in
+    let b : v .0 ≡ len = ap second (gives-one g) in
+    record { read = v-is ∙ ap (λ (p : ℕ × ℕ). gives (p .1, p .0)) (gives-one g); some = omega (arith, w .some); inside = omega (arith, w .inside) }
 
 module _ (s : List ℕ) {n len : ℕ} (w : Framing s n len) (t : List ℕ) where
   whole-length : length (take (n + len) s) ≡ n + len
@@ -100,14 +100,14 @@ module _ {A : Type 0} (read : List ℕ → Answer A) where
   pub whole-is : (s : List ℕ) {a : A} {size : ℕ} → entry read s ≡ gives (a, size) → Whole read s a size
   unfolding entry
   whole-is s e =
-      let v = stepped (framed s) _ e in
-      let w = stepped (read (bodyAt s (v .given .0) (v .given .1))) _ (v .second) in
+      let (v, v-is, v-then) = then-gave (framed s) _ e in
+      let (w, w-is, w-then) = then-gave (read (bodyAt s (v .0) (v .1))) _ (v-then) in
       record {
-        place = v .given .0;
-        len = v .given .1;
-        frame = framing s (v .first);
-        sum = ap second (gives-one (w .second));
-        body = w .first ∙ ap gives (ap first (gives-one (w .second)));
+        place = v .0;
+        len = v .1;
+        frame = framing s (v-is);
+        sum = ap second (gives-one (w-then));
+        body = w-is ∙ ap gives (ap first (gives-one (w-then)));
       }
 
   module _ (s : List ℕ) {a : A} {size : ℕ} (w : Whole read s a size) where
@@ -140,15 +140,15 @@ unfolding localBody rowOf
 local-key body e =
     let (t, g) = not-refused (eqb (length body) 0) 4 _ e in
     let (u, h) = not-other (eqb (getD body 0 0) 1) 5 _ g in
-    let v = stepped (readI64 body 1) _ h in
-    let w = stepped (readU64 body (1 + v .given .1)) _ (v .second) in
-    let x = stepped (blocksAt (w .given .0) body (1 + v .given .1 + w .given .1)) _ (w .second) in
+    let (v, v-is, v-then) = then-gave (readI64 body 1) _ h in
+    let (w, w-is, w-then) = then-gave (readU64 body (1 + v .1)) _ (v-then) in
+    let (x, x-is, x-then) = then-gave (blocksAt (w .0) body (1 + v .1 + w .1)) _ (w-then) in
     let z = eqb-false (length body) 0 t in
     record {
       some = omega (arith, z);
       first-byte = eqb-true (getD body 0 0) 1 u;
-      taken = v .given .1;
-      read = v .first ∙ ap (λ (r : ℤ). gives (r, v .given .1)) (ap first (gives-one (x .second)));
+      taken = v .1;
+      read = v-is ∙ ap (λ (r : ℤ). gives (r, v .1)) (ap first (gives-one (x-then)));
     }
 
 pub keyed-key : (kind : ℕ) (body : List ℕ) {rowid : ℤ} {at : ℕ} → keyedAt kind body ≡ gives (rowid, at) → HasKey kind body rowid
@@ -156,13 +156,13 @@ unfolding keyedAt
 keyed-key kind body e =
     let (t, g) = not-refused (eqb (length body) 0) 5 _ e in
     let (u, h) = not-other (eqb (getD body 0 0) kind) 5 _ g in
-    let v = stepped (readI64 body 1) _ h in
+    let (v, v-is, v-then) = then-gave (readI64 body 1) _ h in
     let z = eqb-false (length body) 0 t in
     record {
       some = omega (arith, z);
       first-byte = eqb-true (getD body 0 0) kind u;
-      taken = v .given .1;
-      read = v .first ∙ ap (λ (r : ℤ). gives (r, v .given .1)) (ap first (gives-one (v .second)));
+      taken = v .1;
+      read = v-is ∙ ap (λ (r : ℤ). gives (r, v .1)) (ap first (gives-one (v-then)));
     }
 
 -- ---- what is peeked at is what is read

@@ -23,7 +23,7 @@ use Rattle.cell.specs.Entry.{withLength, fitted}
 use Rattle.cell.specs.Written.{blocksBytes, bodyBytes, entryBytes, encoded, writeCell}
 use Rattle.cell.specs.Listing.{wordList, heldAll, kindMap, judged, blocksLen, headOf, columnsOf, bodyOf, bodySize, Good, Measures}
 use Rattle.cell.proofs.Placing.{then-over, short-size, short-output as output-kept, whole-size, whole-output}
-use Rattle.cell.proofs.KeyWriting.{id-is}
+use Rattle.cell.proofs.Numbers.{id-is}
 use Rattle.cell.proofs.Nulls.{nulls, map-length}
 use Rattle.cell.proofs.Putting.{putting}
 use Rattle.cell.proofs.Measuring.{measuring}

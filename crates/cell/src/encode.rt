@@ -4,11 +4,8 @@ ghost use mathlib.Core.List.{[], _∷_, _++_};
 ghost use Prim.Native.Nat.{_+_, _*_, _/_, _^_, _≤_, _<_};
 ghost use lib.Dec.{eqb};
 ghost use lib.ListN.{length, take, drop, getD};
-ghost use mir.Syntax.{w64};
-ghost use mir.Val.{toZ};
 ghost use Rattle.paper.specs.Answer.{over, pick, put, sizeOf};
 ghost use Rattle.varint.specs.Leb.{lebBytes};
-ghost use Rattle.varint.specs.Zigzag.{zigzag};
 ghost use Rattle.varint.specs.Paper.{paperWrote};
 ghost use Rattle.cell.specs.Block.{bitmapBytes};
 ghost use Rattle.cell.specs.Written.{blockBytes, blocksBytes, encoded, writeCell};
@@ -51,18 +48,6 @@ fn data_used(kind: u8, word: u64) -> usize
     0
 }
 
-// The ZigZag number of the signed number whose 64 bits these are.
-fn zigzag_bits(bits: u64) -> u64
-    ensures { λ r. ⌜ r ≡ zigzag (toZ w64 bits) ⌝ }
-{
-    let doubled = std::num::wrapping_add_u64(bits, bits);
-    if bits < 0x8000_0000_0000_0000 {
-        doubled
-    } else {
-        !doubled
-    }
-}
-
 // ---- the first reading: each column is judged and measured
 
 // The bytes of a varint, with their bound.
@@ -80,7 +65,7 @@ fn block_len(kind: u8, word: u64) -> usize
         return 0;
     }
     if kind == tag::INTEGER {
-        return 1 + varint_len(zigzag_bits(word));
+        return 1 + varint_len(varint::inner::zigzag_bits(word));
     }
     if kind == tag::REAL {
         return 9;
@@ -274,7 +259,7 @@ fn put_payload(out: &mut [u8], kind: u8, word: u64, data: &[u8], from: usize) ->
     ensures { λ _. ⌜ now (out .exit) ≡ over (now (out .entry)) (payload kind word (drop from (now («data» .entry)))) ⌝ }
 {
     if kind == tag::INTEGER {
-        return varint::inner::put_u64(out, zigzag_bits(word));
+        return varint::inner::put_u64(out, varint::inner::zigzag_bits(word));
     }
     if kind == tag::REAL {
         field::inner::put_u64(out, word);

@@ -15,6 +15,7 @@ use Rattle.cell.specs.Entry.{entry, peekKind, peekRowid}
 use Rattle.cell.specs.Keyed.{keyedAt, pageAt}
 use Rattle.cell.specs.Local.{localBody, cellFrom, headFrom}
 use Rattle.cell.specs.View.{Lawful}
+use Rattle.cell.proofs.Accepting.{then-gave}
 use Rattle.cell.proofs.Whole.{Whole, HasKey, whole-is, whole-some, whole-inside, whole-anywhere, local-key, keyed-key, rowid-peeked, kind-anywhere}
 use Rattle.overflow.specs.Paged.{Paged, local, overflow, localPaged, referencePaged, pagedFrom}
 use Rattle.overflow.specs.Reference.{referenceBody, referenceFrom}
@@ -22,22 +23,12 @@ use Rattle.overflow.specs.View.{rowidOf, bytesOf, pagedView}
 
 -- a reference's body has a key
 reference-key : (body : List ℕ) {r : ℤ × ℕ × ℕ} → referenceBody body ≡ gives r → HasKey 2 body (r .0)
-unfolding referenceBody andThen
-reference-key body {r} e = by (keyedAt 2 body) refl e
-  where
-    by3 : (z : ℤ) (total : ℕ) (a : Answer ℕ) → andThen {B = ℤ × ℕ × ℕ} a (λ page. gives (z, total, page)) ≡ gives r → z ≡ r .0
-    by3 z total (gives page) f = ap (λ (x : ℤ × ℕ × ℕ). x .0) (gives-one f)
-    by3 z total (refuses k) f = absurd (gives-refuses (sym f))
-
-    by2 : (p : ℤ × ℕ) (a : Answer (ℕ × ℕ)) → andThen {B = ℤ × ℕ × ℕ} a (λ (total, n). andThen (pageAt body (p .1 + n)) (λ page. gives (p .0, total, page))) ≡ gives r → p .0 ≡ r .0
-    by2 p (gives q) f = by3 (p .0) (q .0) (pageAt body (p .1 + q .1)) f
-    by2 p (refuses k) f = absurd (gives-refuses (sym f))
-
-    by : (a : Answer (ℤ × ℕ)) → keyedAt 2 body ≡ a
-        → andThen {B = ℤ × ℕ × ℕ} a (λ (rowid, at). andThen (readU64 body at) (λ (total, n). andThen (pageAt body (at + n)) (λ page. gives (rowid, total, page)))) ≡ gives r
-        → HasKey 2 body (r .0)
-    by (gives p) h f = rw (← by2 p (readU64 body (p .1)) f) (keyed-key 2 body h)
-    by (refuses k) h f = absurd (gives-refuses (sym f))
+unfolding referenceBody
+reference-key body e =
+    let ((rowid, at), k, f) = then-gave (keyedAt 2 body) _ e in
+    let ((total, n), t, g) = then-gave (readU64 body at) _ f in
+    let (page, p, h) = then-gave (pageAt body (at + n)) _ g in
+    rw (← gives-one h) (keyed-key 2 body k)
 
 -- ---- what stands at the head of the list
 data PagedWhole (s : List ℕ) (rowid : ℤ) (size : ℕ) : Type 0 where

@@ -46,28 +46,24 @@ module _ (body : List ℕ) where
         let t = w .top l in
         refers-not (2 ^ 64 - 1 - at) (rw (← w .refused l)) (omega arith) (omega arith)
 
-    module _ (l : at < 2 ^ 63) where
-      pub key-inside : at ≤ length body
-      key-inside = w .inside l
+    module _ (l : at < 2 ^ 63) {v n : ℕ} (f : FoundAt body at v n) where
+      pub total-short : {a b k page : ℕ} → n ≡ 0 → k ≡ 2 ^ 64 - 1 - 1 → page ≡ k → Refers body a b page
+      unfolding referenceBody andThen
+      total-short z d e = refers-not 1 (rw (← w .given l, ← at-short body at f z)) (omega arith) (e ∙ d)
 
-      module _ {v n : ℕ} (f : FoundAt body at v n) where
-        pub total-short : {a b k page : ℕ} → n ≡ 0 → k ≡ 2 ^ 64 - 1 - 1 → page ≡ k → Refers body a b page
-        unfolding referenceBody andThen
-        total-short z d e = refers-not 1 (rw (← w .given l, ← at-short body at f z)) (omega arith) (e ∙ d)
+      pub total-long : {a b k page : ℕ} → 10 < n → k ≡ 2 ^ 64 - 1 - 2 → page ≡ k → Refers body a b page
+      unfolding referenceBody andThen
+      total-long h d e = refers-not 2 (rw (← w .given l, ← at-long body at f h)) (omega arith) (e ∙ d)
 
-        pub total-long : {a b k page : ℕ} → 10 < n → k ≡ 2 ^ 64 - 1 - 2 → page ≡ k → Refers body a b page
-        unfolding referenceBody andThen
-        total-long h d e = refers-not 2 (rw (← w .given l, ← at-long body at f h)) (omega arith) (e ∙ d)
-
-        pub total-given : (n ≡ 0 → ⊥) → n ≤ 10 → {page : ℕ} → PageWord body (at + n) page → Refers body rowid v page
-        unfolding referenceBody andThen
-        total-given z m {page} k =
-            record {
-              refused = λ h. rw (← w .given l, ← at-value body at f z m, ← is-refusal (k .coded) h refl);
-              top = λ h. is-number (k .coded) h;
-              given = λ h. rw (← w .given l, ← at-value body at f z m, ← is-place (k .coded) h);
-              small = λ h. k .small h;
-            }
+      pub total-given : (n ≡ 0 → ⊥) → n ≤ 10 → {page : ℕ} → PageWord body (at + n) page → Refers body rowid v page
+      unfolding referenceBody andThen
+      total-given z m {page} k =
+          record {
+            refused = λ h. rw (← w .given l, ← at-value body at f z m, ← is-refusal (k .coded) h refl);
+            top = λ h. is-number (k .coded) h;
+            given = λ h. rw (← w .given l, ← at-value body at f z m, ← is-place (k .coded) h);
+            small = λ h. k .small h;
+          }
 
 pub refers-fits : {body : List ℕ} {rowid total page : ℕ} → Refers body rowid total page → page < 2 ^ 63 → Fits w32 page
 refers-fits r h = record { fits = r .small h }
@@ -104,7 +100,6 @@ pub ruleset references = (
   needs,
   at-inside,
   reference-unkeyed,
-  key-inside,
   total-short,
   total-long,
   total-given,

@@ -3,3 +3,4 @@ pub mod Paged
 pub mod Paper
 pub mod Words
 pub mod View
+pub mod Plain

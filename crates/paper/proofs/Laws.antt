@@ -90,4 +90,5 @@ pub size-refuses : {k : ℕ} {d : Answer (List ℕ)} → d ≡ refuses k → siz
 unfolding sizeOf
 size-refuses e = rw e
 
-pub ruleset paper = (needs, pick-lt, pick-not-lt, pick-le, pick-not-le, pick-eq, pick-ne)
+-- the ruleset that every other one starts from
+pub ruleset paper = (needs, pick-lt, pick-not-lt, pick-le, pick-not-le, pick-eq, pick-ne, then-gives, then-refuses, put-gives, put-refuses, size-gives, size-refuses)

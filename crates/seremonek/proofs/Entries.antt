@@ -9,7 +9,7 @@ use lib.IntN.{ℤ}
 use mir.Syntax.{w64}
 use mir.Val.{SFits, ofZ, toZ}
 use mir.ValLaws.{toZ-ofZ}
-use borrow.Author.Needs.{needs}
+use Rattle.paper.proofs.Laws.{paper}
 use Rattle.paper.specs.Answer.{Answer, pick, put, sizeOf}
 use Rattle.cell.specs.Paper.{paperKind, paperRowid, paperSize, paperHead}
 use Rattle.cell.specs.declared.Head.{Head}
@@ -24,15 +24,13 @@ use Rattle.cell.specs.declared.PeekedRowid.the-variants as R
 use Rattle.cell.specs.Block.{Block}
 use Rattle.cell.specs.PaperValue.{paperValue, paperAsked}
 use Rattle.cell.specs.Written.{encoded, writeCell}
-use Rattle.varint.specs.Paper.{paperWrote}
-use Rattle.varint.specs.declared.Wrote.{Wrote}
 use Rattle.varint.specs.declared.Wrote.the-variants as W
 use Rattle.cell.specs.declared.value.Asked.{Asked}
 use Rattle.cell.specs.declared.value.Asked.the-variants as Ask
 use Rattle.cell.specs.declared.value.Value.{Value}
 use Rattle.cell.specs.declared.value.Value.the-variants as Val
 use Rattle.seremonek.specs.Interface.{codeOf, answered, one, signedOne, signedThree, valueThree}
-use Rattle.seremonek.proofs.Numbers.{by-bits, wrote-code, wrote-refused, wrote-answer, wrote-kept}
+use Rattle.seremonek.proofs.Numbers.{by-bits, write-code, write-answer}
 use Rattle.seremonek.proofs.Words.{given-code, refused-code, given-answer, refused-answer}
 
 module _ (q : Answer ℕ) {r : PeekedKind} (e : paperKind r ≡ q) where
@@ -161,46 +159,33 @@ module _ (v : Value) where
 
 -- ---- writing: the rowid comes to the callee as the number of its bits
 module _ (z : ℤ) (kinds words rest : List ℕ) (f : SFits w64 z) where
-  written : (room : ℕ) {a : Answer ℕ} → a ≡ sizeOf (writeCell (toZ w64 (ofZ w64 z)) kinds words rest room) → a ≡ sizeOf (writeCell z kinds words rest room)
-  written room e = by-bits (λ (y : ℤ). sizeOf (writeCell y kinds words rest room)) z f e
+  module _ (room : ℕ) where
+    pub encode-out : (out : List ℕ) {new : List ℕ}
+        → new ≡ put out (writeCell (toZ w64 (ofZ w64 z)) kinds words rest room) → new ≡ put out (writeCell z kinds words rest room)
+    encode-out out e = by-bits (λ (y : ℤ). put out (writeCell y kinds words rest room)) z f e
 
-  measured : {a : Answer ℕ} → a ≡ sizeOf (encoded (toZ w64 (ofZ w64 z)) kinds words rest) → a ≡ sizeOf (encoded z kinds words rest)
-  measured e = by-bits (λ (y : ℤ). sizeOf (encoded y kinds words rest)) z f e
+    module _ {p : Answer ℕ} (e : p ≡ sizeOf (writeCell (toZ w64 (ofZ w64 z)) kinds words rest room)) where
+      written : p ≡ sizeOf (writeCell z kinds words rest room)
+      written = by-bits (λ (y : ℤ). sizeOf (writeCell y kinds words rest room)) z f e
 
-  pub encode-out : (out : List ℕ) (room : ℕ) {new : List ℕ}
-      → new ≡ put out (writeCell (toZ w64 (ofZ w64 z)) kinds words rest room) → new ≡ put out (writeCell z kinds words rest room)
-  encode-out out room e = by-bits (λ (y : ℤ). put out (writeCell y kinds words rest room)) z f e
+      pub encode-code : {k : ℕ} → k ≡ codeOf p → k ≡ codeOf (writeCell z kinds words rest room)
+      encode-code h = write-code _ written h
 
-  module _ (room : ℕ) {r : Wrote} (e : paperWrote r ≡ sizeOf (writeCell (toZ w64 (ofZ w64 z)) kinds words rest room)) where
-    pub encode-code : {n : ℕ} → r ≡ W.Bytes n → 0 ≡ codeOf (writeCell z kinds words rest room)
-    encode-code h = wrote-code _ (written room e) h
+      pub encode-answer : (old : List ℕ) {new : List ℕ} → new ≡ answered one p old → new ≡ answered one (sizeOf (writeCell z kinds words rest room)) old
+      encode-answer old h = write-answer _ written old h
 
-    pub encode-refused : {k : ℕ} → r ≡ W.Refused k → k ≡ codeOf (writeCell z kinds words rest room)
-    encode-refused h = wrote-refused _ (written room e) h
+  module _ {p : Answer ℕ} (e : p ≡ sizeOf (encoded (toZ w64 (ofZ w64 z)) kinds words rest)) where
+    measured : p ≡ sizeOf (encoded z kinds words rest)
+    measured = by-bits (λ (y : ℤ). sizeOf (encoded y kinds words rest)) z f e
 
-    module _ (old : List ℕ) where
-      pub encode-answer : {n : ℕ} → r ≡ W.Bytes n → n ∷ [] ≡ answered one (sizeOf (writeCell z kinds words rest room)) old
-      encode-answer h = wrote-answer _ (written room e) old h
+    pub length-code : {k : ℕ} → k ≡ codeOf p → k ≡ codeOf (encoded z kinds words rest)
+    length-code h = write-code _ measured h
 
-      pub encode-kept : {k : ℕ} → r ≡ W.Refused k → old ≡ answered one (sizeOf (writeCell z kinds words rest room)) old
-      encode-kept h = wrote-kept _ (written room e) old h
-
-  module _ {r : Wrote} (e : paperWrote r ≡ sizeOf (encoded (toZ w64 (ofZ w64 z)) kinds words rest)) where
-    pub length-code : {n : ℕ} → r ≡ W.Bytes n → 0 ≡ codeOf (encoded z kinds words rest)
-    length-code h = wrote-code _ (measured e) h
-
-    pub length-refused : {k : ℕ} → r ≡ W.Refused k → k ≡ codeOf (encoded z kinds words rest)
-    length-refused h = wrote-refused _ (measured e) h
-
-    module _ (old : List ℕ) where
-      pub length-answer : {n : ℕ} → r ≡ W.Bytes n → n ∷ [] ≡ answered one (sizeOf (encoded z kinds words rest)) old
-      length-answer h = wrote-answer _ (measured e) old h
-
-      pub length-kept : {k : ℕ} → r ≡ W.Refused k → old ≡ answered one (sizeOf (encoded z kinds words rest)) old
-      length-kept h = wrote-kept _ (measured e) old h
+    pub length-answer : (old : List ℕ) {new : List ℕ} → new ≡ answered one p old → new ≡ answered one (sizeOf (encoded z kinds words rest)) old
+    length-answer old h = write-answer _ measured old h
 
 pub ruleset entries = (
-  needs,
+  paper,
   kind-code,
   kind-refused,
   kind-answer,
@@ -229,12 +214,8 @@ pub ruleset entries = (
   false-words,
   vector-words,
   encode-code,
-  encode-refused,
   encode-answer,
-  encode-kept,
   encode-out,
   length-code,
-  length-refused,
   length-answer,
-  length-kept,
 )

@@ -7,7 +7,7 @@ use lib.IntN.{ℤ}
 use mir.Syntax.{w64}
 use mir.Val.{SFits, ofZ, toZ}
 use mir.ValLaws.{toZ-ofZ}
-use borrow.Author.Needs.{needs}
+use Rattle.paper.proofs.Laws.{paper}
 use Rattle.paper.specs.Answer.{Answer}
 use Rattle.interior_page.specs.Paper.{paperInterior}
 use Rattle.interior_page.specs.declared.InteriorCell.{InteriorCell}
@@ -39,4 +39,4 @@ module _ (q : Answer ((ℤ × ℕ) × ℕ)) {r : DecodedInterior} (e : paperInte
     unfolding paperInterior
     interior-kept h = refused-answer q interiorWords old (sym (ap paperInterior h) ∙ e)
 
-pub ruleset interiors = (needs, interior-code, interior-refused, interior-answer, interior-kept)
+pub ruleset interiors = (paper, interior-code, interior-refused, interior-answer, interior-kept)

@@ -7,7 +7,7 @@ use lib.IntN.{ℤ}
 use mir.Syntax.{w64}
 use mir.Val.{SFits, ofZ, toZ}
 use mir.ValLaws.{toZ-ofZ}
-use borrow.Author.Needs.{needs}
+use Rattle.paper.proofs.Laws.{paper}
 use Rattle.paper.specs.Answer.{Answer, gives, refuses, sizeOf}
 use Rattle.varint.specs.Paper.{paperU64, paperI64, paperWrote}
 use Rattle.varint.specs.declared.ReadU64.{ReadU64}
@@ -60,27 +60,35 @@ unfolding codeOf sizeOf
 size-code (gives bytes) = refl
 size-code (refuses k) = refl
 
-module _ (d : Answer (List ℕ)) {r : Wrote} (e : paperWrote r ≡ sizeOf d) where
-  pub wrote-code : {n : ℕ} → r ≡ W.Bytes n → 0 ≡ codeOf d
+-- a write's own answer, and what the calls that write make of it
+module _ {r : Wrote} where
+  pub wrote-code : {n : ℕ} → r ≡ W.Bytes n → 0 ≡ codeOf (paperWrote r)
   unfolding paperWrote
-  wrote-code h = given-code (sizeOf d) (sym (ap paperWrote h) ∙ e) ∙ size-code d
+  wrote-code h = given-code (paperWrote r) (sym (ap paperWrote h))
 
-  pub wrote-refused : {k : ℕ} → r ≡ W.Refused k → k ≡ codeOf d
+  pub wrote-refused : {k : ℕ} → r ≡ W.Refused k → k ≡ codeOf (paperWrote r)
   unfolding paperWrote
-  wrote-refused h = refused-code (sizeOf d) (sym (ap paperWrote h) ∙ e) ∙ size-code d
+  wrote-refused h = refused-code (paperWrote r) (sym (ap paperWrote h))
 
   module _ (old : List ℕ) where
-    pub wrote-answer : {n : ℕ} → r ≡ W.Bytes n → n ∷ [] ≡ answered one (sizeOf d) old
+    pub wrote-answer : {n : ℕ} → r ≡ W.Bytes n → n ∷ [] ≡ answered one (paperWrote r) old
     unfolding paperWrote one
-    wrote-answer h = given-answer (sizeOf d) one old (sym (ap paperWrote h) ∙ e)
+    wrote-answer h = given-answer (paperWrote r) one old (sym (ap paperWrote h))
 
-    pub wrote-kept : {k : ℕ} → r ≡ W.Refused k → old ≡ answered one (sizeOf d) old
+    pub wrote-kept : {k : ℕ} → r ≡ W.Refused k → old ≡ answered one (paperWrote r) old
     unfolding paperWrote
-    wrote-kept h = refused-answer (sizeOf d) one old (sym (ap paperWrote h) ∙ e)
+    wrote-kept h = refused-answer (paperWrote r) one old (sym (ap paperWrote h))
+
+module _ (d : Answer (List ℕ)) {p : Answer ℕ} (e : p ≡ sizeOf d) where
+  pub write-code : {k : ℕ} → k ≡ codeOf p → k ≡ codeOf d
+  write-code h = h ∙ ap codeOf e ∙ size-code d
+
+  pub write-answer : (old : List ℕ) {new : List ℕ} → new ≡ answered one p old → new ≡ answered one (sizeOf d) old
+  write-answer old h = rw e at h
 
 -- a signed argument comes to the callee as the number of its bits
 module _ {X : Type 0} (f : ℤ → X) (z : ℤ) (fits : SFits w64 z) {x : X} where
   pub by-bits : x ≡ f (toZ w64 (ofZ w64 z)) → x ≡ f z
   by-bits e = e ∙ ap f (toZ-ofZ w64 z fits)
 
-pub ruleset numbers = (needs, u64-code, u64-refused, u64-answer, u64-kept, i64-code, i64-refused, i64-answer, i64-kept, wrote-code, wrote-refused, wrote-answer, wrote-kept)
+pub ruleset numbers = (paper, u64-code, u64-refused, u64-answer, u64-kept, i64-code, i64-refused, i64-answer, i64-kept, wrote-code, wrote-refused, wrote-answer, wrote-kept, write-code, write-answer)

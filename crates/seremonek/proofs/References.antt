@@ -7,7 +7,7 @@ use lib.IntN.{ℤ}
 use mir.Syntax.{w64}
 use mir.Val.{SFits, ofZ, toZ}
 use mir.ValLaws.{toZ-ofZ}
-use borrow.Author.Needs.{needs}
+use Rattle.paper.proofs.Laws.{paper}
 use Rattle.paper.specs.Answer.{Answer}
 use Rattle.cell.specs.declared.Head.{Head}
 use Rattle.overflow.specs.Paged.{Paged}
@@ -76,7 +76,7 @@ module _ (q : Answer Paged) {r : PagedEntry} (e : paperPaged r ≡ q) where
     paged-kept h = refused-answer q pagedWords old (sym (ap paperPaged h) ∙ e)
 
 pub ruleset references = (
-  needs,
+  paper,
   reference-code,
   reference-refused,
   reference-answer,

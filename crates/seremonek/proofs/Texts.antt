@@ -2,21 +2,21 @@
 -- Assumes nothing.
 use mathlib.Core.Path.{_≡_, sym, _∙_, ap}
 use Prim.Native.Nat.{ℕ}
-use borrow.Author.Needs.{needs}
+use Rattle.paper.proofs.Laws.{paper}
 use Rattle.paper.specs.Answer.{Answer}
-use Rattle.utf8.specs.Checked.{paper}
+use Rattle.utf8.specs.Checked.{paperChecked}
 use Rattle.utf8.specs.declared.Checked.{Checked}
 use Rattle.utf8.specs.declared.Checked.the-variants as C
 use Rattle.seremonek.specs.Interface.{codeOf}
 use Rattle.seremonek.proofs.Words.{given-code, refused-code}
 
-module _ (q : Answer (Unit {0})) {r : Checked} (e : paper r ≡ q) where
+module _ (q : Answer (Unit {0})) {r : Checked} (e : paperChecked r ≡ q) where
   pub text-code : r ≡ C.Text → 0 ≡ codeOf q
-  unfolding paper
-  text-code h = given-code q (sym (ap paper h) ∙ e)
+  unfolding paperChecked
+  text-code h = given-code q (sym (ap paperChecked h) ∙ e)
 
   pub text-refused : {k : ℕ} → r ≡ C.Refused k → k ≡ codeOf q
-  unfolding paper
-  text-refused h = refused-code q (sym (ap paper h) ∙ e)
+  unfolding paperChecked
+  text-refused h = refused-code q (sym (ap paperChecked h) ∙ e)
 
-pub ruleset texts = (needs, text-code, text-refused)
+pub ruleset texts = (paper, text-code, text-refused)

@@ -7,13 +7,13 @@ ghost use Rattle.cell.specs.Local.{headFrom, valueAt};
 ghost use Rattle.cell.specs.PaperValue.{paperValue};
 ghost use Rattle.cell.specs.Written.{encoded, writeCell};
 ghost use Rattle.seremonek.specs.Interface.{codeOf, answered, one, signedOne, signedThree, valueThree};
+use crate::inner::answer_size;
 use cell::Decoded;
 use cell::Measured;
 use cell::PeekedKind;
 use cell::PeekedRowid;
 use cell::value::Asked;
 use cell::value::Value;
-use varint::Wrote;
 
 // kind
 #[no_mangle]
@@ -127,13 +127,7 @@ pub extern "C" fn smk_cell_encode(
     ensures { λ _. ⌜ now (answer .exit) ≡ answered one (sizeOf (writeCell rowid (now (kinds .entry)) (now (words .entry)) (now («data» .entry)) (length (now (out .entry))))) (now (answer .entry)) ⌝ }
 {
     let wrote = cell::encode::encode(rowid, kinds, words, data, out);
-    match wrote {
-        Wrote::Bytes(bytes) => {
-            *answer = [bytes as u64];
-            0
-        }
-        Wrote::Refused(number) => number as u32,
-    }
+    answer_size(wrote, answer)
 }
 
 // bytes
@@ -149,11 +143,5 @@ pub extern "C" fn smk_cell_encoded_len(
     ensures { λ _. ⌜ now (answer .exit) ≡ answered one (sizeOf (encoded rowid (now (kinds .entry)) (now (words .entry)) (now («data» .entry)))) (now (answer .entry)) ⌝ }
 {
     let measured = cell::encode::encoded_len(rowid, kinds, words, data);
-    match measured {
-        Wrote::Bytes(bytes) => {
-            *answer = [bytes as u64];
-            0
-        }
-        Wrote::Refused(number) => number as u32,
-    }
+    answer_size(measured, answer)
 }

@@ -5,9 +5,9 @@ ghost use Rattle.paper.specs.Answer.{put, sizeOf};
 ghost use Rattle.interior_page.specs.InteriorCells.{interiorFrom, writeInterior};
 ghost use Rattle.seremonek.specs.Interface.{codeOf, answered, one};
 ghost use Rattle.seremonek.specs.Keyed.{interiorWords};
+use crate::inner::answer_size;
 use interior_page::DecodedInterior;
 use interior_page::InteriorCell;
-use varint::Wrote;
 
 // divider, child, bytes
 #[no_mangle]
@@ -46,11 +46,5 @@ pub extern "C" fn smk_interior_cell_encode(
         child_page: child,
     };
     let wrote = interior_page::encode(cell, out);
-    match wrote {
-        Wrote::Bytes(bytes) => {
-            *answer = [bytes as u64];
-            0
-        }
-        Wrote::Refused(number) => number as u32,
-    }
+    answer_size(wrote, answer)
 }

@@ -6,9 +6,9 @@ ghost use Rattle.varint.specs.Leb.{readU64, writeU64, lenU64};
 ghost use Rattle.varint.specs.Number.{readI64, writeI64, lenI64};
 ghost use Rattle.varint.specs.Zigzag.{zigzag, unzigzag};
 ghost use Rattle.seremonek.specs.Interface.{codeOf, answered, one, two, signedTwo};
+use crate::inner::answer_size;
 use varint::ReadI64;
 use varint::ReadU64;
-use varint::Wrote;
 
 // value, bytes
 #[no_mangle]
@@ -50,13 +50,7 @@ pub extern "C" fn smk_write_u64(value: u64, out: &mut [u8], answer: &mut [u64; 1
     ensures { λ _. ⌜ now (answer .exit) ≡ answered one (sizeOf (writeU64 value (length (now (out .entry))))) (now (answer .entry)) ⌝ }
 {
     let wrote = varint::write_u64(out, value);
-    match wrote {
-        Wrote::Bytes(bytes) => {
-            *answer = [bytes as u64];
-            0
-        }
-        Wrote::Refused(number) => number as u32,
-    }
+    answer_size(wrote, answer)
 }
 
 // bytes
@@ -67,13 +61,7 @@ pub extern "C" fn smk_write_i64(value: i64, out: &mut [u8], answer: &mut [u64; 1
     ensures { λ _. ⌜ now (answer .exit) ≡ answered one (sizeOf (writeI64 value (length (now (out .entry))))) (now (answer .entry)) ⌝ }
 {
     let wrote = varint::write_i64(out, value);
-    match wrote {
-        Wrote::Bytes(bytes) => {
-            *answer = [bytes as u64];
-            0
-        }
-        Wrote::Refused(number) => number as u32,
-    }
+    answer_size(wrote, answer)
 }
 
 #[no_mangle]

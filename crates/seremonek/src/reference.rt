@@ -6,10 +6,10 @@ ghost use Rattle.overflow.specs.Reference.{referenceFrom, writeReference};
 ghost use Rattle.overflow.specs.Paged.{pagedFrom};
 ghost use Rattle.seremonek.specs.Interface.{codeOf, answered, one};
 ghost use Rattle.seremonek.specs.Keyed.{referenceWords, pagedWords};
+use crate::inner::answer_size;
 use overflow::DecodedRef;
 use overflow::OverflowRef;
 use overflow::PagedEntry;
-use varint::Wrote;
 
 // rowid, total, first page, bytes
 #[no_mangle]
@@ -51,13 +51,7 @@ pub extern "C" fn smk_overflow_encode(
         first_overflow_page: first,
     };
     let wrote = overflow::encode(reference, out);
-    match wrote {
-        Wrote::Bytes(bytes) => {
-            *answer = [bytes as u64];
-            0
-        }
-        Wrote::Refused(number) => number as u32,
-    }
+    answer_size(wrote, answer)
 }
 
 // kind, rowid, columns or total, 0 or first page, bytes

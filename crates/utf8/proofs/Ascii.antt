@@ -94,10 +94,10 @@ pub plain-ascii : (s : List ℕ) → Bytes s → (w : ℕ) → w ≡ le 8 0 s �
 plain-ascii s f w e t = word-ascii s f w e (eqb-true _ _ t)
 
 -- the part `&s[i..]` of a slice
-abbrev onward : ℕ → List ℕ → List ℕ
+abbrev pub onward : ℕ → List ℕ → List ℕ
 onward i s = take (length s - i) (drop i s)
 
-onward-is : (i : ℕ) (s : List ℕ) → onward i s ≡ drop i s
+pub onward-is : (i : ℕ) (s : List ℕ) → onward i s ≡ drop i s
 onward-is i s = take-all (length s - i) (drop i s) (omega (arith, length-drop i s))
 
 more : (m n : ℕ) (s : List ℕ) → Ascii m s → Ascii n (drop m s) → Ascii (m + n) s

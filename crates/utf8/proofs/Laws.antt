@@ -8,8 +8,8 @@ use mathlib.Core.List.{List, [], _∷_, _++_}
 use mathlib.Core.Option.{Option, none, some}
 use lib.ListN.{length, take, drop, length-append, length-drop}
 use lib.Seq.{take-append-le, drop-append-le, drop-length}
-use borrow.Author.Needs.{needs}
 use borrow.Author.Tests.{le-leb, lt-leb}
+use Rattle.paper.proofs.Laws.{paper}
 use Rattle.paper.specs.Answer.{Answer, gives, refuses, pick}
 use Rattle.utf8.specs.declared.Checked.{Checked}
 use Rattle.utf8.specs.declared.Checked.the-variants.{Text, Refused}
@@ -17,7 +17,7 @@ use Rattle.utf8.specs.Table.{Row}
 use Rattle.utf8.specs.WellFormed.{whole, completes, wellFormed, checkText, checkAt}
 use Rattle.utf8.specs.Scalar.{Scalars, encode}
 use Rattle.utf8.specs.Ascii.{Ascii}
-use Rattle.utf8.specs.Checked.{paper}
+use Rattle.utf8.specs.Checked.{paperChecked}
 use Rattle.utf8.proofs.Cases.{by-test, by-order, never}
 use Rattle.utf8.proofs.Ascii.{ascii-drop}
 use Rattle.utf8.proofs.Rows.{rows-pass}
@@ -26,22 +26,22 @@ use Rattle.utf8.proofs.Scalars.{encode-rows}
 -- ---- the answer
 
 -- equal on paper, equal in code: the promise leaves one answer
-pub paper-exact : (a b : Checked) → paper a ≡ paper b → a ≡ b
-unfolding paper
+pub paper-exact : (a b : Checked) → paperChecked a ≡ paperChecked b → a ≡ b
+unfolding paperChecked
 paper-exact Text Text e = refl
 paper-exact Text (Refused k) e = absurd (let z : _≡_ {A = ℕ} 0 1 = cc in omega arith)
 paper-exact (Refused k) Text e = absurd (let z : _≡_ {A = ℕ} 0 1 = cc in omega arith)
 paper-exact (Refused k) (Refused j) e = let f : k ≡ j = cc in ap Refused f
 
 -- what a caller learns where it takes the answer apart
-module _ {r : Checked} {q : Answer (Unit {0})} (e : paper r ≡ q) where
+module _ {r : Checked} {q : Answer (Unit {0})} (e : paperChecked r ≡ q) where
   pub checked-text : r ≡ Text → gives tt ≡ q
-  unfolding paper
-  checked-text h = sym (ap paper h) ∙ e
+  unfolding paperChecked
+  checked-text h = sym (ap paperChecked h) ∙ e
 
   pub checked-refused : {k : ℕ} → r ≡ Refused k → refuses k ≡ q
-  unfolding paper
-  checked-refused h = sym (ap paper h) ∙ e
+  unfolding paperChecked
+  checked-refused h = sym (ap paperChecked h) ∙ e
 
 pub text-gives : (s : List ℕ) → wellFormed s ≡ true → checkText s ≡ gives tt
 unfolding checkText pick
@@ -125,4 +125,4 @@ pub encoded-text : (vs : List ℕ) → Scalars vs → wellFormed (encode vs) ≡
 encoded-text vs h = rows-pass (encode-rows vs h)
 
 pub ruleset text =
-    (needs, checked-text, checked-refused, text-gives, text-refuses, at-inside, at-outside, gives-inside, gives-well-formed, at-moved, at-append, at-drop, empty-text, text-append, ascii-text, encoded-text)
+    (paper, checked-text, checked-refused, text-gives, text-refuses, at-inside, at-outside, gives-inside, gives-well-formed, at-moved, at-append, at-drop, empty-text, text-append, ascii-text, encoded-text)

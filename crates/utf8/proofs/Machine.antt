@@ -18,6 +18,7 @@ use Rattle.utf8.specs.WellFormed.{after, completes, whole, wellFormed}
 use Rattle.utf8.specs.Ascii.{Passed}
 use Rattle.utf8.specs.Machine.{states, leftBy, State, resumed, Moves, Reads, every, sameRange, sameRow, sameLeft, sample, alike, Alike, Chart, lined, Line, isState, packed, Packs}
 use Rattle.utf8.proofs.Cases.{by-order}
+use Rattle.utf8.proofs.Rows.{nowhere}
 
 -- ---- what a test that computes says
 
@@ -165,14 +166,9 @@ pub at-first : (x : ℕ) (s : List ℕ) → x % 64 ≡ 0 → resumed x s ≡ wel
 unfolding resumed leftBy states wellFormed
 at-first x s e = ap (λ (k : ℕ). completes (getD states (k / 6) none) s) e
 
-nowhere : (s : List ℕ) → false ≡ completes none s
-unfolding completes whole after
-nowhere [] = refl
-nowhere (b ∷ s) = nowhere s
-
 pub no-row : (x : ℕ) (s : List ℕ) → x % 64 ≡ 6 → false ≡ resumed x s
 unfolding resumed leftBy states
-no-row x s e = nowhere s ∙ sym (ap (λ (k : ℕ). completes (getD states (k / 6) none) s) e)
+no-row x s e = sym (nowhere s) ∙ sym (ap (λ (k : ℕ). completes (getD states (k / 6) none) s) e)
 
 -- what is left is nothing in the first state alone
 ends : ℕ → Option Row → Bool

@@ -1,14 +1,14 @@
 -- The test `wellFormed` is the statement `OfRows`: a byte string passes exactly if it is a sequence of the table's rows.
 -- Assumes nothing.
-use Prim.Native.Nat.{ℕ, suc, _≤_, _<_}
+use Prim.Native.Nat.{ℕ, suc, _≤_}
 use native.Mathlib.Omega.{arith}
-use mathlib.Core.Path.{_≡_, refl, ap, subst, _∙_}
+use mathlib.Core.Path.{_≡_, refl, sym, ap, subst, _∙_}
 use mathlib.Core.Bool.{true, false}
 use mathlib.Core.List.{List, [], _∷_, _++_, List·Memᴰ, List·Memᴰ·head, List·Memᴰ·tail, List·Memᴰ·not-nil, List·Memᴰ·cases-cons}
 use mathlib.Core.Logic.{_⊎_, inl, inr, _↔_}
 use mathlib.Core.Option.{Option, none, some}
 use lib.Dec.{leb}
-use borrow.Author.Tests.{le-leb, lt-leb, leb-true}
+use borrow.Author.Tests.{le-leb, leb-true}
 use Rattle.paper.specs.Answer.{pick}
 use Rattle.utf8.specs.Table.{Range, _‥_, Row, table}
 use Rattle.utf8.specs.WellFormed.{In, Fits, done, byte, OfRows, end, row, inside, begun, after, whole, completes, wellFormed}
@@ -20,14 +20,13 @@ pub inside-in : (r : Range) (b : ℕ) → In r b → inside r b ≡ true
 unfolding inside pick
 inside-in (lo ‥ hi) b h = rw (le-leb lo b (h .0), le-leb b hi (h .1))
 
-inside-above : (lo hi b : ℕ) → hi < b → inside (lo ‥ hi) b ≡ false
-unfolding inside pick
-inside-above lo hi b h = by-test (leb lo b) (λ e. rw (e, lt-leb b hi h)) (λ e. rw e)
-
 in-inside : (r : Range) (b : ℕ) → inside r b ≡ true → In r b
 unfolding inside pick
 in-inside (lo ‥ hi) b e =
     by-test (leb lo b) (λ low. (leb-true lo b low, leb-true b hi (rw low at e))) (λ low. never (rw low at e))
+
+pub not-inside : (r : Range) (b : ℕ) → (In r b → ⊥) → inside r b ≡ false
+not-inside r b h = by-test (inside r b) (λ e. absurd (h (in-inside r b e))) (λ e. e)
 
 -- ---- the row that a byte begins
 
@@ -65,7 +64,10 @@ begins low ((lo′ ‥ hi′ ∷ rs′) ∷ rows) a (lo ‥ hi) rs b m h = go (L
         rw (inside-in (lo′ ‥ hi′) b (omega arith)) (ap some er)
     go (inr n) f =
         let g : suc hi′ ≤ lo = above (suc hi′) rows (a .1 .1) lo hi rs n in
-        rw (inside-above lo′ hi′ b (omega arith)) (f n h)
+        rw (not-inside (lo′ ‥ hi′) b (omega arith)) (f n h)
+
+pub table-begins : (r : Range) (rs : Row) (b : ℕ) → List·Memᴰ (r ∷ rs) table → In r b → begun table b ≡ some rs
+table-begins = begins 0 table table-ascending
 
 record Begun (rows : List Row) (b : ℕ) (rs : Row) : Type 0 where
   first : Range
@@ -88,7 +90,7 @@ begun-by ((r ∷ rs′) ∷ rows) b rs e = by-test (inside r b) (λ i. here i (r
 
 -- ---- the statement passes the test
 
-along : {o o′ : Option Row} (s : List ℕ) → o ≡ o′ → completes o s ≡ completes o′ s
+pub along : {o o′ : Option Row} (s : List ℕ) → o ≡ o′ → completes o s ≡ completes o′ s
 along s e = ap (λ (o : Option Row). completes o s) e
 
 through : (rs : Row) {u : List ℕ} (t : List ℕ) → Fits rs u → completes (some rs) (u ++ t) ≡ completes (some []) t
@@ -99,7 +101,7 @@ through (r ∷ rs) t (byte {b = b} {s = s} h f) = along (s ++ t) (rw (inside-in 
 row-through : (rs : Row) {u : List ℕ} (t : List ℕ) → List·Memᴰ rs table → Fits rs u → completes (some []) (u ++ t) ≡ completes (some []) t
 unfolding completes after
 row-through [] t m done = refl
-row-through (r ∷ rs) t m (byte {b = b} {s = s} h f) = along (s ++ t) (begins 0 table table-ascending r rs b m h) ∙ through rs t f
+row-through (r ∷ rs) t m (byte {b = b} {s = s} h f) = along (s ++ t) (table-begins r rs b m h) ∙ through rs t f
 
 pub rows-pass : {s : List ℕ} → OfRows s → wellFormed s ≡ true
 unfolding wellFormed completes whole
@@ -116,10 +118,10 @@ record Completed (rs : Row) (s : List ℕ) : Type 0 where
   fits : Fits rs head
   rows : OfRows tail
 
-nowhere : (s : List ℕ) → completes none s ≡ true → ⊥
+pub nowhere : (s : List ℕ) → completes none s ≡ false
 unfolding completes after whole
-nowhere [] e = never e
-nowhere (b ∷ s) e = nowhere s e
+nowhere [] = refl
+nowhere (b ∷ s) = nowhere s
 
 passed : (rs : Row) (s : List ℕ) → completes (some rs) s ≡ true → Completed rs s
 unfolding completes after whole pick
@@ -128,12 +130,12 @@ passed (r ∷ rs) [] e = never e
 passed [] (b ∷ s) e = go (begun table b) refl e (λ (rs : Row). passed rs s)
   where
     go : (o : Option Row) → begun table b ≡ o → completes o s ≡ true → ((rs : Row) → completes (some rs) s ≡ true → Completed rs s) → Completed [] (b ∷ s)
-    go none w e′ f = absurd (nowhere s e′)
+    go none w e′ f = never (sym (nowhere s) ∙ e′)
     go (some rs) w e′ f =
         let k = f rs e′ in
         let g = begun-by table b rs w in
         record { head = []; tail = b ∷ s; split = refl; fits = done; rows = subst OfRows (ap (λ (x : List ℕ). b ∷ x) (k .split)) (row (g .listed) (byte (g .holds) (k .fits)) (k .rows)) }
-passed (r ∷ rs) (b ∷ s) e = by-test (inside r b) (λ i. more i (passed rs s (rw i at e))) (λ i. absurd (nowhere s (rw i at e)))
+passed (r ∷ rs) (b ∷ s) e = by-test (inside r b) (λ i. more i (passed rs s (rw i at e))) (λ i. never (sym (nowhere s) ∙ (rw i at e)))
   where
     more : inside r b ≡ true → Completed rs s → Completed (r ∷ rs) (b ∷ s)
     more i k = record { head = b ∷ k .head; tail = k .tail; split = ap (λ (x : List ℕ). b ∷ x) (k .split); fits = byte (in-inside r b i) (k .fits); rows = k .rows }

@@ -3,6 +3,6 @@ use Rattle.paper.specs.Answer.{Answer, gives, refuses}
 use Rattle.utf8.specs.declared.Checked.{Checked}
 use Rattle.utf8.specs.declared.Checked.the-variants.{Text, Refused}
 
-unfoldable pub paper : Checked → Answer (Unit {0})
-paper Text = gives tt
-paper (Refused k) = refuses k
+unfoldable pub paperChecked : Checked → Answer (Unit {0})
+paperChecked Text = gives tt
+paperChecked (Refused k) = refuses k

@@ -4,3 +4,4 @@ pub mod Scalar
 pub mod Machine
 pub mod Checked
 pub mod Ascii
+pub mod RowAt

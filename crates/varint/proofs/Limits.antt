@@ -9,8 +9,8 @@ use native.Mathlib.Omega.{arith}
 use lib.Dec.{ltb}
 use lib.ListN.{length, getD}
 use lib.Pow.{pow-add, pow-pos, shr-shr}
-use borrow.Author.Needs.{needs}
 use borrow.Author.Tests.{lt-ltb, le-ltb}
+use Rattle.paper.proofs.Laws.{paper}
 use Rattle.paper.specs.Answer.{pick}
 use Rattle.varint.specs.Leb.{groups, lebBytes, lenU64}
 
@@ -104,4 +104,4 @@ passed-all {v} {n} p h =
     let e : n ≡ 9 = omega arith in
     rw (e, groups-one (v / 2 ^ 63)) at (p .same)
 
-pub ruleset limits = (needs, passed-one, passed-first, passed-last, passed-more, passed-all)
+pub ruleset limits = (paper, passed-one, passed-first, passed-last, passed-more, passed-all)

@@ -6,11 +6,10 @@ use Prim.Native.Nat.{ℕ, _+_, _-_, _*_, _%_, _^_, _≤_, _<_}
 use native.Mathlib.Omega.{arith}
 use lib.IntN.{ℤ}
 use lib.ListN.{length, take, drop, getD, length-drop}
-use borrow.Author.Needs.{needs}
 use borrow.Author.Tests.{lt-ltb, le-ltb, ne-eqb}
 use Rattle.paper.specs.Answer.{Answer, gives, refuses, andThen, pick}
 use Rattle.paper.specs.Coded.{Coded}
-use Rattle.paper.proofs.Laws.{gives-one, gives-refuses}
+use Rattle.paper.proofs.Laws.{paper, gives-one, gives-refuses}
 use Rattle.paper.proofs.Coding.{coded-place, coded-refusal}
 use Rattle.varint.specs.Leb.{readFrom, readU64, endU64}
 use Rattle.varint.specs.Number.{readI64}
@@ -112,4 +111,4 @@ end-inside s pos {r} e = by (readFrom (drop pos s)) refl e
         (omega arith, omega arith)
     by (refuses k) h f = absurd (gives-refuses f)
 
-pub ruleset places = (needs, found-past, found-byte, found-apart, going-apart, end-past, end-byte, end-short, end-long, end-value, at-inside)
+pub ruleset places = (paper, found-past, found-byte, found-apart, going-apart, end-past, end-byte, end-short, end-long, end-value, at-inside)

@@ -8,8 +8,8 @@ use native.Mathlib.Numerals.{add-one}
 use native.Mathlib.Omega.{arith}
 use lib.ListN.{length, take, drop, getD, length-drop, drop-of-length-le}
 use lib.Seq.{drop-cons, take-all, getD-drop}
-use borrow.Author.Needs.{needs}
 use borrow.Author.Tests.{lt-ltb, le-ltb, ne-eqb}
+use Rattle.paper.proofs.Laws.{paper}
 use Rattle.paper.specs.Answer.{Answer, gives, refuses, andThen, pick}
 use Rattle.varint.specs.Leb.{taken, sumFrom, readFrom, readU64}
 use Rattle.varint.specs.Paper.{paperU64}
@@ -120,7 +120,7 @@ module _ (s : List ℕ) (pos : ℕ) where
     scanned-value z l = rw (ne-eqb n 0 z, le-ltb 10 n l) at scanned-at
 
 pub ruleset reading = (
-  needs,
+  paper,
   going-start,
   going-end,
   going-short,

@@ -1,6 +1,6 @@
 -- Signed numbers: the 64-bit pattern, ZigZag there and back, and the calls over them.
 -- Assumes nothing.
-use mathlib.Core.Path.{_≡_, refl}
+use mathlib.Core.Path.{_≡_, refl, _∙_, ap}
 use mathlib.Core.Bool.{true, false}
 use mathlib.Core.List.{List}
 use Prim.Native.Nat.{ℕ, suc, _+_, _-_, _/_, _%_, _^_, _≤_, _<_}
@@ -12,8 +12,8 @@ use lib.Signed.{ltZ, nonNeg}
 use mir.Syntax.{w64}
 use mir.Val.{Fits, SFits, ofZ, toZ}
 use mir.ValLaws.{toZ-pos, toZ-neg, toZ-ofZ}
-use borrow.Author.Needs.{needs}
 use borrow.Author.Tests.{ltb-true, eq-eqb, ne-eqb}
+use Rattle.paper.proofs.Laws.{paper}
 use Rattle.paper.specs.Answer.{Answer, andThen, pick, put, sizeOf}
 use Rattle.varint.specs.Leb.{readU64, lenU64, writeU64}
 use Rattle.varint.specs.Zigzag.{zigzag, unzigzag}
@@ -60,14 +60,6 @@ module _ (z : ℤ) (f : SFits w64 z) (t : ltZ (toZ w64 (ofZ w64 z)) (toZ w64 0) 
       let l : n < 2 ^ 63 = rw e at (f .sfits) in
       rw (e, flipped n l) (omega arith)
 
-  pub minus-doubled : {p r : ℕ} → p ≡ ofZ w64 (toZ w64 (ofZ w64 z)) → r ≡ (p + p) % 2 ^ 64 → 2 ^ 64 - 1 - r ≡ zigzag z
-  unfolding zigzag
-  minus-doubled {p} {r} q s =
-      let (n, e) = below-zero z f t in
-      let l : n < 2 ^ 63 = rw e at (f .sfits) in
-      let d : p ≡ 2 ^ 64 - suc n = rw (toZ-ofZ w64 z f, e) at q in
-      rw e (omega arith)
-
 module _ (z : ℤ) (f : SFits w64 z) (t : ltZ (toZ w64 (ofZ w64 z)) (toZ w64 0) ≡ false) where
   pub plus-cast : T (nonNeg (toZ w64 (ofZ w64 z))) × Fits w64 (natAbs (toZ w64 (ofZ w64 z)))
   plus-cast =
@@ -80,13 +72,21 @@ module _ (z : ℤ) (f : SFits w64 z) (t : ltZ (toZ w64 (ofZ w64 z)) (toZ w64 0) 
       let (n, e) = not-below-zero z f t in
       rw (toZ-ofZ w64 z f, e)
 
-  pub plus-doubled : {p r : ℕ} → p ≡ ofZ w64 (toZ w64 (ofZ w64 z)) → r ≡ (p + p) % 2 ^ 64 → r ≡ zigzag z
-  unfolding zigzag
-  plus-doubled {p} {r} q s =
-      let (n, e) = not-below-zero z f t in
-      let l : n < 2 ^ 63 = rw e at (f .sfits) in
-      let d : p ≡ n = rw (toZ-ofZ w64 z f, e) at q in
-      rw e (omega arith)
+-- ---- ZigZag: the pattern doubled modulo 2 ^ 64, complemented from 2 ^ 63 on
+pub doubled-plus : {bits r : ℕ} → bits < 2 ^ 63 → r ≡ (bits + bits) % 2 ^ 64 → r ≡ zigzag (toZ w64 bits)
+unfolding zigzag
+doubled-plus {bits} {r} l e = rw (toZ-pos w64 bits l) (omega arith)
+
+pub doubled-minus : {bits r : ℕ} → Fits w64 bits → 2 ^ 63 ≤ bits → r ≡ (bits + bits) % 2 ^ 64 → 2 ^ 64 - 1 - r ≡ zigzag (toZ w64 bits)
+unfolding zigzag
+doubled-minus {bits} {r} f l e =
+    let d : bits ≡ 2 ^ 64 - suc (2 ^ 64 - suc bits) = omega arith in
+    let z : toZ w64 bits ≡ negsuc (2 ^ 64 - suc bits) = ap (toZ w64) d ∙ toZ-neg w64 (2 ^ 64 - suc bits) (omega arith) in
+    rw z (omega arith)
+
+-- the pattern of a signed number stands for it
+pub of-pattern : (z : ℤ) → SFits w64 z → {p r : ℕ} → p ≡ ofZ w64 (toZ w64 (ofZ w64 z)) → r ≡ zigzag (toZ w64 p) → r ≡ zigzag z
+of-pattern z f {p} {r} q e = rw (q, toZ-ofZ w64 z f, toZ-ofZ w64 z f) at e
 
 -- ---- ZigZag back
 pub half-even : (u : ℕ) → u < 2 ^ 64 → u % 2 ≡ 0 → toZ w64 (u / 2) ≡ unzigzag u
@@ -139,7 +139,7 @@ module _ {u : ℕ} (z : ℤ) (f : SFits w64 z) (e : u ≡ zigzag (toZ w64 (ofZ w
   signed-written old p = rw (e, toZ-ofZ w64 z f) at p
 
 pub ruleset signed = (
-  needs,
+  paper,
   half-even,
   half-odd,
   going-second,

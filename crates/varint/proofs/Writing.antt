@@ -10,8 +10,8 @@ use lib.Arith.{lt-of-le-ne}
 use lib.ListN.{length, drop, set, length-set}
 use lib.Pow.{shr-lt}
 use lib.Seq.{sets, sets-eq}
-use borrow.Author.Needs.{needs}
 use borrow.Author.Tests.{le-ltb, lt-ltb}
+use Rattle.paper.proofs.Laws.{paper}
 use Rattle.paper.specs.Answer.{pick, put, over, sizeOf}
 use Rattle.varint.specs.Leb.{groups, lebBytes, lenU64, writeU64}
 use Rattle.varint.specs.Paper.{paperWrote}
@@ -142,7 +142,7 @@ module _ (value : ℕ) (h : value < 128) where
     byte-output = accepted-output value (length out) refl byte-room out (filling-done (filling-start (omega arith) byte-room) h)
 
 pub ruleset writing = (
-  needs,
+  paper,
   filling-start,
   filling-inside,
   filling-more,

@@ -3,9 +3,12 @@
 ghost use mathlib.Core.Path.{_≡_};
 ghost use Prim.Native.Nat.{_+_, _*_, _%_, _^_, _<_, _≤_};
 ghost use lib.ListN.{length, getD};
+ghost use mir.Syntax.{w64};
+ghost use mir.Val.{toZ};
 ghost use Rattle.paper.specs.Answer.{over};
 ghost use Rattle.paper.specs.Coded.{Coded};
 ghost use Rattle.varint.specs.Leb.{endU64, lenU64, lebBytes};
+ghost use Rattle.varint.specs.Zigzag.{zigzag};
 ghost use Rattle.varint.specs.Scan.{Going, Found, FoundAt};
 use paper::inner::wide;
 
@@ -95,6 +98,19 @@ pub fn end_at(buf: &[u8], pos: usize) -> usize
         return paper::inner::refusal(2);
     }
     pos + found.taken
+}
+
+// ZigZag of the signed number whose 64-bit pattern this is: the pattern added to itself, which drops the top bit, complemented for
+// negatives.
+pub fn zigzag_bits(bits: u64) -> u64
+    ensures { λ r. ⌜ r ≡ zigzag (toZ w64 bits) ⌝ }
+{
+    let doubled = std::num::wrapping_add_u64(bits, bits);
+    if bits < 0x8000_0000_0000_0000 {
+        doubled
+    } else {
+        !doubled
+    }
 }
 
 // Writes the bytes of `value` from the start of `out`, which has room.

@@ -156,13 +156,11 @@ pub fn pattern(v: i64) -> u64
     if v < 0 { !((!v) as u64) } else { v as u64 }
 }
 
-// 2v, or -2v - 1 below zero: the pattern added to itself, which drops the top bit, complemented for negatives.
+// 2v, or -2v - 1 below zero.
 pub fn zigzag_encode(v: i64) -> u64
     ensures { λ r. ⌜ r ≡ zigzag v ⌝ }
 {
-    let bits = pattern(v);
-    let doubled = std::num::wrapping_add_u64(bits, bits);
-    if v < 0 { !doubled } else { doubled }
+    inner::zigzag_bits(pattern(v))
 }
 
 pub fn zigzag_decode(v: u64) -> i64

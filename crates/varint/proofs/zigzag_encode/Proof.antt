@@ -1,6 +1,6 @@
--- `varint::zigzag_encode` meets its contract, below zero and from zero on. Assumes nothing.
+-- `varint::zigzag_encode` meets its contract. Assumes nothing.
 use borrow.Author.Needs.{needs}
-use Rattle.varint.proofs.Signed.{minus-doubled, plus-doubled}
+use Rattle.varint.proofs.Signed.{of-pattern}
 use Rattle.varint.proofs.zigzag_encode.Statement.{statement}
 use Rattle.varint.proofs.zigzag_encode.Tie as tie
 
@@ -10,5 +10,4 @@ zigzag-encode-spec =
     (tie.spec
     (λ c κs. search needs)
     (λ c κs. search needs)
-    (λ c. minus-doubled _ (c .before .before .before .fits .v) (c .if1 .taken) (c .before .before .pattern .ensures) (c .before .wrapping-add-u64 .ensures))
-    (λ c. plus-doubled _ (c .before .before .before .fits .v) (c .if1 .left) (c .before .before .pattern .ensures) (c .before .wrapping-add-u64 .ensures)))
+    (λ c. of-pattern _ (c .before .before .fits .v) (c .before .pattern .ensures) (c .zigzag-bits .ensures)))

@@ -1,8 +1,7 @@
 -- `cell::encode::copy` meets its contract. Assumes nothing.
 use Prim.Native.Nat.{_-_}
 use lib.ListN.{length}
-use Rattle.cell.proofs.Placing.{Storing}
-use Rattle.cell.proofs.Numbers.{numbers}
+use Rattle.cell.proofs.Placing.{Storing, placing}
 use Rattle.cell.proofs.encode.copy.Statement.{statement}
 use Rattle.cell.proofs.encode.copy.Tie as tie
 
@@ -10,6 +9,6 @@ pub copy-spec : {M : Type 1} → statement M
 copy-spec =
     tie.close
     (tie.spec
-    (λ out₀ src i₀ out i. Storing out₀ src out i) (λ out₀ src i₀ out i. length src - i) (λ c. search numbers)
-    (λ c. search numbers) (λ c. search numbers) (λ c. search numbers) (λ c. search numbers) (λ c. search numbers)
-    (λ c. search numbers) (λ c. search numbers))
+    (λ out₀ src i₀ out i. Storing out₀ src out i) (λ out₀ src i₀ out i. length src - i) (λ c. search placing)
+    (λ c. search placing) (λ c. search placing) (λ c. search placing) (λ c. search placing) (λ c. search placing)
+    (λ c. search placing) (λ c. search placing))

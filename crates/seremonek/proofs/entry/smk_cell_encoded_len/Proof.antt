@@ -4,8 +4,4 @@ use Rattle.seremonek.proofs.entry.smk_cell_encoded_len.Statement.{state
 use Rattle.seremonek.proofs.entry.smk_cell_encoded_len.Tie as tie
 
 pub smk-cell-encoded-len-spec : {M : Type 1} → statement M
-smk-cell-encoded-len-spec =
-    tie.close
-    (tie.spec
-    (λ c κs. search entries) (λ c. search entries) (λ c. search entries) (λ c. search entries) (λ c. search entries)
-    (λ c. search entries))
+smk-cell-encoded-len-spec = tie.close (tie.spec (λ c κs. search entries) (λ c κs. search entries) (λ c. search entries))

@@ -12,17 +12,8 @@ use Rattle.seremonek.proofs.number.smk_write_i64.Tie as tie
 
 returns : tie.Need-returns
 returns c =
-    let start = c .before .before .before .before .before .before .before .before .before in
-    let called = c .before .before .before .before .before .before .write-i64 in
-    let out : List ℕ = now (start .args .out) in
-    let size = by-bits (λ (z : ℤ). sizeOf (writeI64 z (length out))) _ (start .fits .value) (called .ensures .0) in
-    let bytes = by-bits (λ (z : ℤ). put out (writeI64 z (length out))) _ (start .fits .value) (called .ensures .1) in
-    search numbers
-
-returns-2 : tie.Need-returns-2
-returns-2 c =
-    let start = c .before .before .before .before .before .before .before .before in
-    let called = c .before .before .before .before .before .write-i64 in
+    let start = c .before .before .before .before .before .before .before in
+    let called = c .before .before .before .before .write-i64 in
     let out : List ℕ = now (start .args .out) in
     let size = by-bits (λ (z : ℤ). sizeOf (writeI64 z (length out))) _ (start .fits .value) (called .ensures .0) in
     let bytes = by-bits (λ (z : ℤ). put out (writeI64 z (length out))) _ (start .fits .value) (called .ensures .1) in
@@ -31,12 +22,4 @@ returns-2 c =
 pub smk-write-i64-spec : {M : Type 1} → statement M
 smk-write-i64-spec =
     tie.close
-    (tie.spec
-    (λ c κs. search numbers)
-    (λ c. search numbers)
-    (λ c. search numbers)
-    (λ c. search numbers)
-    (λ c. search numbers)
-    returns
-    (λ c. search numbers)
-    returns-2)
+    (tie.spec (λ c κs. search numbers) (λ c κs. search numbers) (λ c. search numbers) returns)

@@ -12,17 +12,8 @@ use Rattle.seremonek.proofs.reference.smk_overflow_encode.Tie as tie
 
 returns : tie.Need-returns
 returns c =
-    let start = c .before .before .before .before .before .before .before .before .before in
-    let called = c .before .before .before .before .before .before .encode in
-    let out : List ℕ = now (start .args .out) in
-    let size = by-bits (λ (z : ℤ). sizeOf (writeReference z (start .args .total) (start .args .first) (length out))) _ (start .fits .rowid) (called .ensures .0) in
-    let bytes = by-bits (λ (z : ℤ). put out (writeReference z (start .args .total) (start .args .first) (length out))) _ (start .fits .rowid) (called .ensures .1) in
-    search numbers
-
-returns-2 : tie.Need-returns-2
-returns-2 c =
-    let start = c .before .before .before .before .before .before .before .before in
-    let called = c .before .before .before .before .before .encode in
+    let start = c .before .before .before .before .before .before .before in
+    let called = c .before .before .before .before .encode in
     let out : List ℕ = now (start .args .out) in
     let size = by-bits (λ (z : ℤ). sizeOf (writeReference z (start .args .total) (start .args .first) (length out))) _ (start .fits .rowid) (called .ensures .0) in
     let bytes = by-bits (λ (z : ℤ). put out (writeReference z (start .args .total) (start .args .first) (length out))) _ (start .fits .rowid) (called .ensures .1) in
@@ -31,12 +22,4 @@ returns-2 c =
 pub smk-overflow-encode-spec : {M : Type 1} → statement M
 smk-overflow-encode-spec =
     tie.close
-    (tie.spec
-    (λ c κs. search numbers)
-    (λ c. search numbers)
-    (λ c. search numbers)
-    (λ c. search numbers)
-    (λ c. search numbers)
-    returns
-    (λ c. search numbers)
-    returns-2)
+    (tie.spec (λ c κs. search numbers) (λ c κs. search numbers) (λ c. search numbers) returns)
