@@ -19,12 +19,12 @@ use Rattle.cell.proofs.Numbers.{leb-most}
 use Rattle.cell.proofs.KeyWriting.{key-length, page-after, keyed-length, one-small, entry-writing}
 use Rattle.cell.proofs.Placing.{placing}
 use Rattle.interior_page.specs.InteriorCells.{interiorBytes}
-use Rattle.interior_page.specs.Words.{dividerWords}
+use Rattle.interior_page.specs.Words.{dividerOf}
 
 -- ---- part after part
 pub child-ends : (out y z : List ℕ) (size divider child n : ℕ) → y ≡ over out (keyOf size 3 divider) → n ≡ 2 + length (lebBytes divider)
-    → 6 + length (lebBytes divider) ≤ length out → z ≡ overAt y n (bytes 4 child) → z ≡ over out (dividerWords size divider child)
-unfolding dividerWords
+    → 6 + length (lebBytes divider) ≤ length out → z ≡ overAt y n (bytes 4 child) → z ≡ over out (dividerOf size divider child)
+unfolding dividerOf
 child-ends out y z size divider child n d e l f =
     page-after out (keyOf size 3 divider) y z child n d (e ∙ sym (key-length size 3 divider)) (rw (key-length size 3 divider) (omega arith)) f
 

@@ -16,5 +16,5 @@ pub record Divides (body : List ℕ) (divider child : ℕ) : Type 0 where
   pub small : child < 2 ^ 63 → child < 2 ^ 32
 
 -- the bytes of a divider whose body has size bytes, its rowid as ZigZag has it
-unfoldable pub dividerWords : ℕ → ℕ → ℕ → List ℕ
-dividerWords size divider child = keyOf size 3 divider ++ bytes 4 child
+unfoldable pub dividerOf : ℕ → ℕ → ℕ → List ℕ
+dividerOf size divider child = keyOf size 3 divider ++ bytes 4 child

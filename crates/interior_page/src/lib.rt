@@ -7,7 +7,7 @@ ghost use Rattle.varint.specs.Leb.{lebBytes};
 ghost use Rattle.varint.specs.Paper.{paperWrote};
 ghost use Rattle.interior_page.specs.InteriorCells.{interiorFrom, writeInterior};
 ghost use Rattle.interior_page.specs.Paper.{paperInterior};
-ghost use Rattle.interior_page.specs.Words.{Divides, dividerWords};
+ghost use Rattle.interior_page.specs.Words.{Divides, dividerOf};
 use cell::inner::NO_PLACE;
 use paper::inner::number;
 use varint::Wrote;
@@ -83,7 +83,7 @@ pub fn decode(buf: &[u8], pos: usize) -> DecodedInterior
 // Writes a divider over the start of `out`, which has room: `size` is its body's length.
 fn put_divider(out: &mut [u8], size: usize, divider: u64, child: u32)
     requires { ⌜ (size < 128) × (6 + length (lebBytes divider) ≤ length (now out)) ⌝ }
-    ensures { λ _. ⌜ now (out .exit) ≡ over (now (out .entry)) (dividerWords size divider child) ⌝ }
+    ensures { λ _. ⌜ now (out .exit) ≡ over (now (out .entry)) (dividerOf size divider child) ⌝ }
 {
     let at = cell::inner::keyed::put_key(out, size, cell::KIND_INTERIOR, divider);
     cell::inner::keyed::put_page(out, at, child)

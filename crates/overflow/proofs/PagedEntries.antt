@@ -7,8 +7,8 @@ use native.Mathlib.Nat.{le-of-eq}
 use lib.IntN.{ℤ}
 use lib.ListN.{length, take, drop, length-drop}
 use lib.Seq.{take-all}
-use borrow.Author.Needs.{needs}
 use borrow.Author.Tests.{eq-eqb, ne-eqb}
+use Rattle.paper.proofs.Laws.{paper}
 use Rattle.paper.specs.Answer.{Answer, andThen, pick}
 use Rattle.cell.specs.Entry.{peekKind}
 use Rattle.cell.specs.Local.{headFrom}
@@ -87,7 +87,7 @@ module _ (s : List ℕ) {r : PeekedKind} (e : paperKind r ≡ peekKind s) where
     paged-other n m = rw (← e, d, ne-eqb k 1 n, ne-eqb k 2 m)
 
 pub ruleset paged = (
-  needs,
+  paper,
   paged-local,
   paged-local-refused,
   frame-number,

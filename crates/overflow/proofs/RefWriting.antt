@@ -20,7 +20,7 @@ use Rattle.cell.proofs.Numbers.{leb-most}
 use Rattle.cell.proofs.KeyWriting.{key-length, page-after, keyed-length, two-small, entry-writing}
 use Rattle.cell.proofs.Placing.{then-over, placing}
 use Rattle.overflow.specs.Reference.{referenceBytes}
-use Rattle.overflow.specs.Words.{referenceWords}
+use Rattle.overflow.specs.Words.{referenceOf}
 
 -- ---- part after part
 pub total-output : (out x : List ℕ) (size rowid total : ℕ) {at : ℕ} {new : List ℕ} → x ≡ over out (keyOf size 2 rowid) → at ≡ 2 + length (lebBytes rowid)
@@ -31,8 +31,8 @@ total-output out x size rowid total {at} {new} d e l f =
 
 pub page-ends : (out y z : List ℕ) (size rowid total page n : ℕ) → y ≡ over out (keyOf size 2 rowid ++ lebBytes total)
     → n ≡ 2 + length (lebBytes rowid) + length (lebBytes total) → 6 + length (lebBytes rowid) + length (lebBytes total) ≤ length out
-    → z ≡ overAt y n (bytes 4 page) → z ≡ over out (referenceWords size rowid total page)
-unfolding referenceWords
+    → z ≡ overAt y n (bytes 4 page) → z ≡ over out (referenceOf size rowid total page)
+unfolding referenceOf
 page-ends out y z size rowid total page n d e l f =
     let k : length (keyOf size 2 rowid ++ lebBytes total) ≡ n = rw (length-append (keyOf size 2 rowid) (lebBytes total), key-length size 2 rowid) (sym e) in
     page-after out (keyOf size 2 rowid ++ lebBytes total) y z page n d (sym k) (rw k (omega arith)) f

@@ -10,7 +10,7 @@ use lib.ListN.{length, take, drop, length-drop, drop-of-length-le}
 use lib.Seq.{take-all}
 use mir.Syntax.{w32}
 use mir.Val.{Fits}
-use borrow.Author.Needs.{needs}
+use Rattle.paper.proofs.Laws.{paper}
 use Rattle.paper.specs.Answer.{Answer, refuses, andThen}
 use Rattle.paper.proofs.Coding.{is-place, is-refusal, is-number}
 use Rattle.varint.specs.Leb.{readFrom, taken}
@@ -97,7 +97,7 @@ module _ (s : List ℕ) (pos : ℕ) where
   reference-at e = rw (take-all (length s - pos) (drop pos s) (le-of-eq (length-drop pos s))) at e
 
 pub ruleset references = (
-  needs,
+  paper,
   at-inside,
   reference-unkeyed,
   total-short,

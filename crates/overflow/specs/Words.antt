@@ -17,5 +17,5 @@ pub record Refers (body : List ℕ) (rowid total page : ℕ) : Type 0 where
   pub small : page < 2 ^ 63 → page < 2 ^ 32
 
 -- the bytes of a reference whose body has size bytes, its rowid as ZigZag has it
-unfoldable pub referenceWords : ℕ → ℕ → ℕ → ℕ → List ℕ
-referenceWords size rowid total page = keyOf size 2 rowid ++ (lebBytes total ++ bytes 4 page)
+unfoldable pub referenceOf : ℕ → ℕ → ℕ → ℕ → List ℕ
+referenceOf size rowid total page = keyOf size 2 rowid ++ (lebBytes total ++ bytes 4 page)

@@ -11,7 +11,7 @@ ghost use Rattle.varint.specs.Paper.{paperWrote};
 ghost use Rattle.overflow.specs.Reference.{referenceFrom, writeReference};
 ghost use Rattle.overflow.specs.Paged.{pagedFrom, localPaged, referencePaged};
 ghost use Rattle.overflow.specs.Paper.{paperRef, paperPaged};
-ghost use Rattle.overflow.specs.Words.{Refers, referenceWords};
+ghost use Rattle.overflow.specs.Words.{Refers, referenceOf};
 use cell::Decoded;
 use cell::Head;
 use cell::PeekedKind;
@@ -190,7 +190,7 @@ fn put_total(out: &mut [u8], size: usize, rowid: u64, total: u64) -> usize
 
 fn put_reference(out: &mut [u8], size: usize, rowid: u64, total: u64, page: u32)
     requires { ⌜ (size < 128) × (6 + length (lebBytes rowid) + length (lebBytes total) ≤ length (now out)) ⌝ }
-    ensures { λ _. ⌜ now (out .exit) ≡ over (now (out .entry)) (referenceWords size rowid total page) ⌝ }
+    ensures { λ _. ⌜ now (out .exit) ≡ over (now (out .entry)) (referenceOf size rowid total page) ⌝ }
 {
     let end = put_total(out, size, rowid, total);
     cell::inner::keyed::put_page(out, end, page)

@@ -1,12 +1,12 @@
 -- `interior_page::encode` meets its contract. Assumes nothing.
 use Rattle.interior_page.proofs.DividerWriting.{divider-writing}
 use Rattle.interior_page.specs.InteriorCells.{interiorBytes, writeInterior}
-use Rattle.interior_page.specs.Words.{dividerWords}
+use Rattle.interior_page.specs.Words.{dividerOf}
 use Rattle.interior_page.proofs.encode.Statement.{statement}
 use Rattle.interior_page.proofs.encode.Tie as tie
 
 pub encode-spec : {M : Type 1} → statement M
-unfolding writeInterior interiorBytes dividerWords
+unfolding writeInterior interiorBytes dividerOf
 encode-spec =
     tie.close
     (tie.spec
