@@ -10,12 +10,12 @@ use Rattle.varint.specs.Number.{readI64}
 use Rattle.field.specs.Field.{bytes}
 use Rattle.utf8.specs.Table.{table}
 use Rattle.utf8.specs.WellFormed.{inside, begun, after, whole, completes, wellFormed, checkText, checkAt}
-use Rattle.cell.specs.Entry.{framed, entry}
+use Rattle.cell.specs.Entry.{framed, entry, withLength, fitted}
 use Rattle.cell.specs.Block.{blockOf, block, isNull, bitmapBytes, columns}
 use Rattle.cell.specs.Local.{blocksAt, rowOf, localBody, cellFrom, headFrom, moved, nth, valueFrom, valueAt}
 use Rattle.cell.specs.ValueList.{item, items, wordsOf, valueList}
 use Rattle.cell.specs.Written.{blockBytes, blocksBytes, nullBit, nullBits, bitmap, bodyBytes, entryBytes, encoded, writeCell}
-use Rattle.cell.specs.Keyed.{keyedAt, pageAt, withLength, keyedBytes, fitted}
+use Rattle.cell.specs.Keyed.{keyedAt, pageAt, keyedBytes}
 use Rattle.overflow.specs.Reference.{referenceBody, referenceFrom, referenceBytes, writeReference}
 use Rattle.interior_page.specs.InteriorCells.{interiorBody, interiorFrom, interiorBytes, writeInterior}
 use Rattle.seremonek.specs.Interface.{two, signedOne, signedThree, valueThree}

@@ -193,6 +193,15 @@ module _ (body : List ℕ) (at : ℕ) where
       by (gives p) = by2 (p .0) (p .1) (ltb ((length body - (at + p .1)) / 4) (p .0))
       by (refuses k) = refl
 
+-- only a tag of 0 to 4 begins one
+pub unknown : (tag : ℕ) (body : List ℕ) (at : ℕ) → 4 < tag → blockOf tag body at ≡ refuses 9
+unfolding blockOf pick
+unknown tag body at l =
+    rw (ne-eqb tag 0 (omega arith), ne-eqb tag 1 (omega arith), ne-eqb tag 2 (omega arith), ne-eqb tag 3 (omega arith), ne-eqb tag 4 (omega arith))
+
+past-four : (t : ℕ) → (t ≡ 0 → ⊥) → (t ≡ 1 → ⊥) → (t ≡ 2 → ⊥) → (t ≡ 3 → ⊥) → (t ≡ 4 → ⊥) → 4 < t
+past-four t n0 n1 n2 n3 n4 = omega arith
+
 module _ (body : List ℕ) (at : ℕ) where
   pub block-missing : length body ≤ at → blockEnd body at ≡ refuses 7
   unfolding blockEnd block pick andThen
@@ -223,10 +232,9 @@ module _ (body : List ℕ) (at : ℕ) where
 
     pub block-unknown : {r : ℕ} → (getD body at 0 ≡ 0 → ⊥) → (getD body at 0 ≡ 1 → ⊥) → (getD body at 0 ≡ 2 → ⊥)
         → (getD body at 0 ≡ 3 → ⊥) → (getD body at 0 ≡ 4 → ⊥) → r ≡ 2 ^ 64 - 1 - 9 → Coded (blockEnd body at) r
-    unfolding endOf blockOf pick andThen
+    unfolding endOf andThen
     block-unknown n0 n1 n2 n3 n4 e =
-        let t : ℕ = getD body at 0 in
-        coded-refusal {k = 9} (rw (tagged refl, ne-eqb t 0 n0, ne-eqb t 1 n1, ne-eqb t 2 n2, ne-eqb t 3 n3, ne-eqb t 4 n4)) (omega arith) e
+        coded-refusal {k = 9} (rw (tagged refl, unknown (getD body at 0) body (at + 1) (past-four (getD body at 0) n0 n1 n2 n3 n4))) (omega arith) e
 
 pub ruleset ends = (
   needs,

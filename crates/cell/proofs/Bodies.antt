@@ -1,6 +1,6 @@
 -- A local body whole, and the frame of an entry.
 -- Assumes nothing.
-use mathlib.Core.Path.{_≡_, refl, sym, ap}
+use mathlib.Core.Path.{_≡_, refl, sym, _∙_, ap}
 use mathlib.Core.Bool.{Bool, true, false}
 use mathlib.Core.List.{List}
 use Prim.Native.Nat.{ℕ, _+_, _-_, _*_, _^_, _≤_, _<_}
@@ -12,7 +12,7 @@ use borrow.Author.Tests.{lt-ltb, le-ltb, eq-eqb, ne-eqb, eqb-true, ltb-false}
 use Rattle.paper.specs.Answer.{Answer, gives, refuses, andThen, pick}
 use Rattle.paper.specs.Coded.{Coded}
 use Rattle.paper.proofs.Coding.{coded-place, coded-refusal, is-place, is-refusal, is-number}
-use Rattle.paper.proofs.Laws.{gives-refuses, refuses-one}
+use Rattle.paper.proofs.Laws.{gives-one, gives-refuses, refuses-one}
 use Rattle.varint.specs.Leb.{readU64}
 use Rattle.varint.specs.Scan.{FoundAt}
 use Rattle.varint.specs.Zigzag.{unzigzag}
@@ -21,6 +21,7 @@ use Rattle.cell.specs.Entry.{framed}
 use Rattle.cell.specs.Block.{Block, columns, bitmapBytes}
 use Rattle.cell.specs.Local.{blocksAt, rowOf, localBody}
 use Rattle.cell.specs.Words.{columnsEnd, bodyEnd, RowidAt, Locally, Frame}
+use Rattle.cell.proofs.Accepting.{not-refused, not-other, then-gave}
 
 -- ---- the bitmap, the columns, and nothing left over
 module _ (body : List ℕ) (count map : ℕ) {b : ℕ} (e : b ≡ bitmapBytes count) where
@@ -29,9 +30,6 @@ module _ (body : List ℕ) (count map : ℕ) {b : ℕ} (e : b ≡ bitmapBytes co
   body-short l d = coded-refusal {k = 6} (rw (lt-ltb (length body - map) (bitmapBytes count) (rw e at l))) (omega arith) d
 
   module _ (l : b ≤ length body - map) where
-    pub bitmap-inside : map ≤ length body → map + bitmapBytes count ≤ length body
-    bitmap-inside h = omega arith
-
     module _ {end : ℕ} (k : Coded (columnsEnd count 0 map body (map + b)) end) where
       -- the end decides, by the columns' own answer
       columns-decide : bodyEnd count body map ≡ andThen (columnsEnd count 0 map body (map + b)) (λ x. pick (eqb x (length body)) (gives (length body)) (refuses 10))
@@ -63,35 +61,22 @@ module _ (body : List ℕ) (count map : ℕ) {b : ℕ} (e : b ≡ bitmapBytes co
         unfolding andThen pick
         body-left n d = coded-refusal {k = 10} (rw (columns-decide, ← is-place k h, ne-eqb end (length body) n)) (omega arith) d
 
--- ---- what an accepted body's end says of its blocks
-pub record Read (count : ℕ) (body : List ℕ) (at : ℕ) : Type 0 where
-  pub blocks : List Block
-  pub read : gives blocks ≡ blocksAt count body at
+-- ---- blocks that were read were walked to the end of the body, behind a bitmap that had room
+pub record Read (count : ℕ) (body : List ℕ) (at : ℕ) (blocks : List Block) : Type 0 where
   pub walk : gives (blocks, length body) ≡ columns count 0 at body (at + bitmapBytes count)
   pub room : bitmapBytes count ≤ length body - at
 
-blocks-read : (count : ℕ) (body : List ℕ) (at : ℕ) {e : ℕ} → gives e ≡ bodyEnd count body at → Read count body at
-unfolding bodyEnd blocksAt pick andThen
-blocks-read count body at {e} g = by (ltb (length body - at) (bitmapBytes count)) refl (columns count 0 at body (at + bitmapBytes count)) refl g
-  where
-    by2 : ltb (length body - at) (bitmapBytes count) ≡ false → (bs : List Block) (x : ℕ) → columns count 0 at body (at + bitmapBytes count) ≡ gives (bs, x)
-        → (t : Bool) → eqb x (length body) ≡ t → gives e ≡ andThen {B = ℕ} (pick t (gives bs) (refuses 10)) (λ _. gives (length body)) → Read count body at
-    by2 s bs x h true t g =
-        let d : x ≡ length body = eqb-true x (length body) t in
-        record {
-          blocks = bs;
-          read = rw (s, h, t);
-          walk = rw (← d) (sym h);
-          room = ltb-false (length body - at) (bitmapBytes count) s;
-        }
-    by2 s bs x h false t g = absurd (gives-refuses g)
-
-    by : (s : Bool) → ltb (length body - at) (bitmapBytes count) ≡ s → (a : Answer (List Block × ℕ)) → columns count 0 at body (at + bitmapBytes count) ≡ a
-        → gives e ≡ andThen {B = ℕ} (pick s (refuses 6) (andThen {B = List Block} a (λ (bs, x). pick (eqb x (length body)) (gives bs) (refuses 10)))) (λ _. gives (length body))
-        → Read count body at
-    by true s a h g = absurd (gives-refuses g)
-    by false s (gives p) h g = by2 s (p .0) (p .1) h (eqb (p .1) (length body)) refl g
-    by false s (refuses k) h g = absurd (gives-refuses g)
+pub blocks-read : (count : ℕ) (body : List ℕ) (at : ℕ) {bs : List Block} → blocksAt count body at ≡ gives bs → Read count body at bs
+unfolding blocksAt
+blocks-read count body at {bs} e =
+    let (t, g) = not-refused (ltb (length body - at) (bitmapBytes count)) 6 _ e in
+    let (w, w-is, w-then) = then-gave (columns count 0 at body (at + bitmapBytes count)) _ g in
+    let (u, h) = not-other (eqb (w .1) (length body)) 10 _ (w-then) in
+    let d : w .1 ≡ length body = eqb-true (w .1) (length body) u in
+    record {
+      walk = sym (w-is ∙ ap (λ (xs : List Block). gives (xs, w .1)) (gives-one h) ∙ ap (λ (x : ℕ). gives (bs, x)) d);
+      room = ltb-false (length body - at) (bitmapBytes count) t;
+    }
 
 blocks-refused : (count : ℕ) (body : List ℕ) (at : ℕ) {k : ℕ} → refuses k ≡ bodyEnd count body at → refuses k ≡ blocksAt count body at
 unfolding bodyEnd andThen
@@ -123,17 +108,18 @@ module _ (body : List ℕ) {rowid at : ℕ} (o : RowidAt body rowid at) {v n : �
   counted = rw (← at-value body at f z l) at (o .same)
 
   pub count-given : {end : ℕ} → Coded (bodyEnd v body (at + n)) end → Locally body rowid v (at + n) end
-  unfolding andThen
+  unfolding andThen bodyEnd
   count-given {end} k =
       record {
         refused = λ h. rw (← blocks-refused v body (at + n) (is-refusal k h refl)) at counted;
         top = λ h. is-number k h;
         given = λ h.
-            let r = blocks-read v body (at + n) (is-place k h) in
+            let (x, x-is, x-then) = then-gave (blocksAt v body (at + n)) _ (sym (is-place k h)) in
+            let r = blocks-read v body (at + n) (x-is) in
             let i = at-inside body at f z l in
             record {
-              blocks = r .blocks;
-              read = rw (← r .read) at counted;
+              blocks = x;
+              read = rw (x-is) at counted;
               walk = r .walk;
               room = omega (arith, r .room);
             };
@@ -218,7 +204,6 @@ pub ruleset bodies = (
   needs,
   at-inside,
   body-short,
-  bitmap-inside,
   body-refused,
   body-ends,
   body-left,

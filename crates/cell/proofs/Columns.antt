@@ -1,6 +1,6 @@
 -- The walk over the columns, and what it says of a whole body.
 -- Assumes nothing.
-use mathlib.Core.Path.{_≡_, refl, sym, _∙_}
+use mathlib.Core.Path.{_≡_, refl, sym, _∙_, ap}
 use mathlib.Core.Bool.{Bool, true, false}
 use mathlib.Core.List.{List, _∷_}
 use Prim.Native.Nat.{ℕ, zero, suc, zero-le, _+_, _-_, _*_, _/_, _%_, _^_, _≤_, _<_}
@@ -9,98 +9,64 @@ use native.Mathlib.Omega.{arith}
 use lib.Dec.{ltb, eqb}
 use lib.ListN.{length, take, drop, getD}
 use borrow.Author.Needs.{needs}
-use borrow.Author.Tests.{ne-eqb, ltb-true, ltb-false}
+use borrow.Author.Tests.{ltb-true, ltb-false}
 use Rattle.paper.specs.Answer.{Answer, gives, refuses, andThen, pick}
 use Rattle.paper.specs.Coded.{Coded}
 use Rattle.paper.proofs.Coding.{coded-place, coded-refusal, is-place, is-refusal, is-number}
-use Rattle.paper.proofs.Laws.{gives-one, gives-refuses}
+use Rattle.paper.proofs.Laws.{gives-one, gives-refuses, first, second}
 use Rattle.varint.specs.Leb.{readU64}
 use Rattle.varint.proofs.Places.{end-inside}
 use Rattle.utf8.specs.WellFormed.{wellFormed}
 use Rattle.cell.specs.Block.{Block, null, block, blockOf, columns, isNull, bitmapBytes}
 use Rattle.cell.specs.Words.{fixedEnd, textEnd, vectorEnd, blockEnd, columnEnd, columnsEnd, Walking}
-use Rattle.cell.proofs.Blocks.{read-inside, endOf, integer-end, real-end, text-link, bool-end, vector-link, tagged, block-missing}
+use Rattle.cell.proofs.Accepting.{not-refused, not-other, then-gave}
+use Rattle.cell.proofs.Blocks.{read-inside, endOf, integer-end, real-end, text-link, bool-end, vector-link, unknown, tagged, block-missing}
 
 -- ---- the place behind a block lies inside the body, past its own place
 
 fixed-inside : (body : List ℕ) (at size : ℕ) {e : ℕ} → at ≤ length body → gives e ≡ fixedEnd body at size → (at ≤ e) × (e ≤ length body)
-unfolding fixedEnd pick
-fixed-inside body at size {e} h g = by (ltb (length body - at) size) refl g
-  where
-    by : (t : Bool) → ltb (length body - at) size ≡ t → gives e ≡ pick t (refuses 7) (gives (at + size)) → (at ≤ e) × (e ≤ length body)
-    by true t g = absurd (gives-refuses g)
-    by false t g =
-        let d : e ≡ at + size = gives-one g in
-        let c : size ≤ length body - at = ltb-false (length body - at) size t in
-        (omega arith, omega arith)
+unfolding fixedEnd
+fixed-inside body at size {e} h g =
+    let (t, f) = not-refused (ltb (length body - at) size) 7 _ (sym g) in
+    let c : size ≤ length body - at = ltb-false (length body - at) size t in
+    let d : at + size ≡ e = gives-one f in
+    (omega arith, omega arith)
 
 text-inside : (body : List ℕ) (at : ℕ) {e : ℕ} → gives e ≡ textEnd body at → (at ≤ e) × (e ≤ length body)
-unfolding textEnd pick andThen
-text-inside body at {e} g = by (readU64 body at) refl g
-  where
-    by2 : (len n : ℕ) (t w : Bool) → at + n ≤ length body → ltb (length body - (at + n)) len ≡ t
-        → gives e ≡ pick t (refuses 7) (pick w (gives (at + n + len)) (refuses 8)) → (at ≤ e) × (e ≤ length body)
-    by2 len n true w i t g = absurd (gives-refuses g)
-    by2 len n false true i t g =
-        let d : e ≡ at + n + len = gives-one g in
-        let c : len ≤ length body - (at + n) = ltb-false (length body - (at + n)) len t in
-        (omega arith, omega arith)
-    by2 len n false false i t g = absurd (gives-refuses g)
-
-    by : (a : Answer (ℕ × ℕ)) → readU64 body at ≡ a
-        → gives e ≡ andThen a (λ (len, n). pick (ltb (length body - (at + n)) len) (refuses 7)
-        (pick (wellFormed (take len (drop (at + n) body))) (gives (at + n + len)) (refuses 8))) → (at ≤ e) × (e ≤ length body)
-    by (gives p) h g = by2 (p .0) (p .1) (ltb (length body - (at + p .1)) (p .0)) (wellFormed (take (p .0) (drop (at + p .1) body))) (read-inside body at h) refl g
-    by (refuses k) h g = absurd (gives-refuses g)
+unfolding textEnd
+text-inside body at {e} g =
+    let (v, v-is, v-then) = then-gave (readU64 body at) _ (sym g) in
+    let len : ℕ = v .0 in
+    let n : ℕ = v .1 in
+    let (t, f) = not-refused (ltb (length body - (at + n)) len) 7 _ (v-then) in
+    let (u, k) = not-other (wellFormed (take len (drop (at + n) body))) 8 _ f in
+    let c : len ≤ length body - (at + n) = ltb-false (length body - (at + n)) len t in
+    let d : at + n + len ≡ e = gives-one k in
+    let i : at + n ≤ length body = read-inside body at (v-is) in
+    (omega arith, omega arith)
 
 vector-inside : (body : List ℕ) (at : ℕ) {e : ℕ} → gives e ≡ vectorEnd body at → (at ≤ e) × (e ≤ length body)
-unfolding vectorEnd pick andThen
-vector-inside body at {e} g = by (readU64 body at) refl g
-  where
-    by2 : (dim n : ℕ) (t : Bool) → at + n ≤ length body → ltb ((length body - (at + n)) / 4) dim ≡ t
-        → gives e ≡ pick t (refuses 7) (gives (at + n + 4 * dim)) → (at ≤ e) × (e ≤ length body)
-    by2 dim n true i t g = absurd (gives-refuses g)
-    by2 dim n false i t g =
-        let d : e ≡ at + n + 4 * dim = gives-one g in
-        let c : dim ≤ (length body - (at + n)) / 4 = ltb-false ((length body - (at + n)) / 4) dim t in
-        (omega arith, omega arith)
+unfolding vectorEnd
+vector-inside body at {e} g =
+    let (v, v-is, v-then) = then-gave (readU64 body at) _ (sym g) in
+    let dim : ℕ = v .0 in
+    let n : ℕ = v .1 in
+    let (t, f) = not-refused (ltb ((length body - (at + n)) / 4) dim) 7 _ (v-then) in
+    let c : dim ≤ (length body - (at + n)) / 4 = ltb-false ((length body - (at + n)) / 4) dim t in
+    let d : at + n + 4 * dim ≡ e = gives-one f in
+    let i : at + n ≤ length body = read-inside body at (v-is) in
+    (omega arith, omega arith)
 
-    by : (a : Answer (ℕ × ℕ)) → readU64 body at ≡ a
-        → gives e ≡ andThen a (λ (dim, n). pick (ltb ((length body - (at + n)) / 4) dim) (refuses 7) (gives (at + n + 4 * dim)))
-        → (at ≤ e) × (e ≤ length body)
-    by (gives p) h g = by2 (p .0) (p .1) (ltb ((length body - (at + p .1)) / 4) (p .0)) (read-inside body at h) refl g
-    by (refuses k) h g = absurd (gives-refuses g)
-
--- which of the tags a number is
-data Tag : ℕ → Type 0 where
-  tag0 : Tag 0
-  tag1 : Tag 1
-  tag2 : Tag 2
-  tag3 : Tag 3
-  tag4 : Tag 4
-  other : {t : ℕ} → 5 ≤ t → Tag t
-
-tag-of : (t : ℕ) → Tag t
-tag-of zero = tag0
-tag-of (suc zero) = tag1
-tag-of (suc (suc zero)) = tag2
-tag-of (suc (suc (suc zero))) = tag3
-tag-of (suc (suc (suc (suc zero)))) = tag4
-tag-of (suc (suc (suc (suc (suc t))))) = let l : 5 ≤ suc (suc (suc (suc (suc t)))) = omega arith in other l
-
-unknown : (t : ℕ) (body : List ℕ) (at : ℕ) → 5 ≤ t → endOf body at (blockOf t body at) ≡ refuses 9
-unfolding endOf blockOf pick andThen
-unknown t body at l =
-    rw (ne-eqb t 0 (omega arith), ne-eqb t 1 (omega arith), ne-eqb t 2 (omega arith), ne-eqb t 3 (omega arith), ne-eqb t 4 (omega arith))
-
-block-of-inside : (t : ℕ) → Tag t → (body : List ℕ) (at : ℕ) {e : ℕ} → at ≤ length body → gives e ≡ endOf body at (blockOf t body at) → (at ≤ e) × (e ≤ length body)
-block-of-inside t tag0 body at h g =
+block-of-inside : (tag : ℕ) (body : List ℕ) (at : ℕ) {e : ℕ} → at ≤ length body → gives e ≡ endOf body at (blockOf tag body at) → (at ≤ e) × (e ≤ length body)
+unfolding endOf andThen
+block-of-inside zero body at h g =
     let (l, m) = end-inside body at (g ∙ integer-end body at) in (omega arith, m)
-block-of-inside t tag1 body at h g = fixed-inside body at 8 h (g ∙ real-end body at)
-block-of-inside t tag2 body at h g = text-inside body at (g ∙ text-link body at)
-block-of-inside t tag3 body at h g = fixed-inside body at 1 h (g ∙ bool-end body at h)
-block-of-inside t tag4 body at h g = vector-inside body at (g ∙ vector-link body at)
-block-of-inside t (other l) body at {e} h g = absurd (gives-refuses (g ∙ unknown t body at l))
+block-of-inside (suc zero) body at h g = fixed-inside body at 8 h (g ∙ real-end body at)
+block-of-inside (suc (suc zero)) body at h g = text-inside body at (g ∙ text-link body at)
+block-of-inside (suc (suc (suc zero))) body at h g = fixed-inside body at 1 h (g ∙ bool-end body at h)
+block-of-inside (suc (suc (suc (suc zero)))) body at h g = vector-inside body at (g ∙ vector-link body at)
+block-of-inside (suc (suc (suc (suc (suc tag))))) body at h g =
+    absurd (gives-refuses (rw (unknown (suc (suc (suc (suc (suc tag))))) body at (omega arith)) at g))
 
 pub block-inside : (body : List ℕ) (at : ℕ) {e : ℕ} → gives e ≡ blockEnd body at → (at < e) × (e ≤ length body)
 block-inside body at {e} g = by (ltb at (length body)) refl
@@ -111,7 +77,7 @@ block-inside body at {e} g = by (ltb at (length body)) refl
     by : (t : Bool) → ltb at (length body) ≡ t → (at < e) × (e ≤ length body)
     by true t =
         let h : at < length body = ltb-true at (length body) t in
-        let (l, m) = block-of-inside (getD body at 0) (tag-of (getD body at 0)) body (at + 1) (omega arith) (g ∙ tagged body at h refl) in
+        let (l, m) = block-of-inside (getD body at 0) body (at + 1) (omega arith) (g ∙ tagged body at h refl) in
         (omega arith, m)
     by false t = absurd (gives-refuses (g ∙ past (ltb-false at (length body) t)))
 
@@ -132,6 +98,35 @@ column-inside body map c at {e} h g = by (isNull body map c) g
     by : (t : Bool) → gives e ≡ andThen (pick t (gives (null, at)) (block body at)) (λ (b, end). gives end) → (at ≤ e) × (e ≤ length body)
     by true g = let z : e ≡ at = gives-one g in (omega arith, omega arith)
     by false g = let (l, m) = block-inside body at {e = e} g in (omega arith, m)
+
+-- ---- the first of some columns, and the others
+
+-- what is read at a place for a column
+abbrev pub reading : ℕ → ℕ → List ℕ → ℕ → Answer (Block × ℕ)
+reading c map body at = pick (isNull body map c) (gives (null, at)) (block body at)
+
+pub record First (n c map : ℕ) (body : List ℕ) (at : ℕ) (bs : List Block) (end : ℕ) : Type 0 where
+  pub head : Block
+  pub next : ℕ
+  pub tail : List Block
+  pub read : gives (head, next) ≡ reading c map body at
+  pub more : gives (tail, end) ≡ columns n (c + 1) map body next
+  pub parts : head ∷ tail ≡ bs
+
+pub first-of : (n c map : ℕ) (body : List ℕ) (at : ℕ) {bs : List Block} {end : ℕ} → gives (bs, end) ≡ columns (suc n) c map body at
+    → First n c map body at bs end
+unfolding columns
+first-of n c map body at g =
+    let (v, v-is, v-then) = then-gave (reading c map body at) _ (sym g) in
+    let (w, w-is, w-then) = then-gave (columns n (c + 1) map body (v .1)) _ (v-then) in
+    record {
+      head = v .0;
+      next = v .1;
+      tail = w .0;
+      read = sym (v-is);
+      more = ap (λ (e : ℕ). gives (w .0, e)) (sym (ap second (gives-one (w-then)))) ∙ sym (w-is);
+      parts = ap first (gives-one (w-then));
+    }
 
 -- ---- the columns, one after another
 pub columns-step : (n c map : ℕ) (body : List ℕ) (at : ℕ) → columnsEnd (suc n) c map body at ≡ andThen (columnEnd body map c at) (λ next. columnsEnd n (c + 1) map body next)
@@ -157,9 +152,6 @@ module _ {body : List ℕ} {map count start : ℕ} where
     pub walking-index : c < count → map + bitmapBytes count ≤ length body → map + c / 8 < length body
     unfolding bitmapBytes
     walking-index t r = omega arith
-
-    pub walking-inside : at ≤ length body
-    walking-inside = w .inside
 
     module _ (t : c < count) {next : ℕ} (k : Coded (columnEnd body map c at) next) where
       walking-step : columnsEnd count 0 map body start ≡ andThen (columnEnd body map c at) (λ e. columnsEnd (count - (c + 1)) (c + 1) map body e)
@@ -205,7 +197,6 @@ pub ruleset walks = (
   column-block,
   walking-start,
   walking-index,
-  walking-inside,
   walking-refused,
   walking-more,
   walking-end,

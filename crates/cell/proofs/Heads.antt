@@ -1,43 +1,36 @@
 -- The head of a local entry.
 -- Assumes nothing.
-use mathlib.Core.Path.{_≡_, refl, sym, _∙_, ap}
-use mathlib.Core.List.{List, _∷_}
+use mathlib.Core.Path.{_≡_, ap}
+use mathlib.Core.List.{List}
 use Prim.Native.Nat.{ℕ, zero, suc, _+_, _-_, _^_, _≤_, _<_}
-use native.Mathlib.Nat.{le-of-eq}
 use native.Mathlib.Omega.{arith}
 use lib.IntN.{ℤ}
-use lib.ListN.{length, take, drop, length-drop, drop-of-length-le}
-use lib.Seq.{take-all}
+use lib.ListN.{length, take, drop, drop-of-length-le}
 use borrow.Author.Needs.{needs}
-use Rattle.paper.specs.Answer.{Answer, gives, refuses, andThen, pick}
-use Rattle.paper.proofs.Laws.{gives-one, gives-refuses, first}
+use Rattle.paper.specs.Answer.{Answer, gives, andThen}
+use Rattle.paper.proofs.Laws.{gives-one, first}
 use Rattle.varint.specs.Leb.{readFrom, taken}
 use Rattle.varint.specs.Zigzag.{unzigzag}
 use Rattle.cell.specs.Entry.{framed, entry}
-use Rattle.cell.specs.Block.{Block, null, block, columns, isNull}
+use Rattle.cell.specs.Block.{Block, columns}
 use Rattle.cell.specs.Local.{cellFrom, headFrom}
 use Rattle.cell.specs.Words.{Frame, Locally}
 use Rattle.cell.specs.Paper.{paperHead}
 use Rattle.cell.specs.declared.Head.{Head}
 use Rattle.cell.specs.declared.Decoded.the-variants as D
+use Rattle.cell.proofs.Placing.{rest-all}
+use Rattle.cell.proofs.Columns.{first-of}
 
 -- as many blocks as columns
 pub columns-length : (n c map : ℕ) (body : List ℕ) (at : ℕ) {bs : List Block} {e : ℕ} → gives (bs, e) ≡ columns n c map body at → length bs ≡ n
-unfolding columns andThen
-columns-length zero c map body at {bs} {e} g = ap length (ap first (gives-one g))
-columns-length (suc n) c map body at {bs} {e} g =
-    by (pick (isNull body map c) (gives (null, at)) (block body at)) g (λ next xs x. columns-length n (c + 1) map body next {bs = xs} {e = x})
-  where
-    by2 : (b : Block) (next : ℕ) (a : Answer (List Block × ℕ)) → columns n (c + 1) map body next ≡ a
-        → gives (bs, e) ≡ andThen {B = List Block × ℕ} a (λ (xs, x). gives (b ∷ xs, x))
-        → ((xs : List Block) (x : ℕ) → gives (xs, x) ≡ columns n (c + 1) map body next → length xs ≡ n) → length bs ≡ suc n
-    by2 b next (gives p) h g ih = ap length (ap first (gives-one g)) ∙ ap suc (ih (p .0) (p .1) (sym h))
-    by2 b next (refuses k) h g ih = absurd (gives-refuses g)
+unfolding columns
+columns-length zero c map body at g = ap length (ap first (gives-one g))
+columns-length (suc n) c map body at g =
+    let f = first-of n c map body at g in
+    rw (← f .parts) (ap suc (columns-length n (c + 1) map body (f .next) (f .more)))
 
-    by : (a : Answer (Block × ℕ)) → gives (bs, e) ≡ andThen {B = List Block × ℕ} a (λ (b, next). andThen (columns n (c + 1) map body next) (λ (xs, x). gives (b ∷ xs, x)))
-        → ((next : ℕ) (xs : List Block) (x : ℕ) → gives (xs, x) ≡ columns n (c + 1) map body next → length xs ≡ n) → length bs ≡ suc n
-    by (gives p) g ih = by2 (p .0) (p .1) (columns n (c + 1) map body (p .1)) refl g (ih (p .1))
-    by (refuses k) g ih = absurd (gives-refuses g)
+pub local-number : (body : List ℕ) {rowid count map end : ℕ} → Locally body rowid count map end → 2 ^ 63 ≤ end → 2 ^ 64 - 256 ≤ end
+local-number body g l = g .top l
 
 module _ (s : List ℕ) {at end : ℕ} (f : Frame s at end) where
   pub frame-number : 2 ^ 63 ≤ end → 2 ^ 64 - 256 ≤ end
@@ -55,9 +48,6 @@ module _ (s : List ℕ) {at end : ℕ} (f : Frame s at end) where
     frame-ends = f .inside l .1
 
     module _ {rowid count map e : ℕ} (g : Locally (take (end - at) (drop at s)) rowid count map e) where
-      pub local-number : 2 ^ 63 ≤ e → 2 ^ 64 - 256 ≤ e
-      local-number h = g .top h
-
       pub head-refused : {k : ℕ} → 2 ^ 63 ≤ e → k ≡ 2 ^ 64 - 1 - e → paperHead (D.Refused k) ≡ headFrom s
       unfolding paperHead headFrom cellFrom entry andThen
       head-refused h d = rw (← f .given l, ← g .refused h, d)
@@ -77,7 +67,7 @@ module _ (s : List ℕ) (pos : ℕ) where
   head-past l = rw (drop-of-length-le s l)
 
   pub head-at : {a : Answer (ℤ × ℕ × ℕ)} → a ≡ headFrom (take (length s - pos) (drop pos s)) → a ≡ headFrom (drop pos s)
-  head-at e = rw (take-all (length s - pos) (drop pos s) (le-of-eq (length-drop pos s))) at e
+  head-at e = rw (rest-all s pos) at e
 
 pub ruleset heads = (
   needs,

@@ -14,7 +14,6 @@ use borrow.Author.Tests.{lt-ltb, le-ltb, ne-eqb}
 use Rattle.paper.specs.Answer.{Answer, gives, refuses, andThen, pick}
 use Rattle.paper.proofs.Laws.{paper, gives-refuses}
 use Rattle.field.proofs.Storing.{length-bytes}
-use Rattle.varint.proofs.Limits.{groups-most}
 use Rattle.varint.specs.Leb.{lebBytes, lenU64}
 use Rattle.varint.specs.Zigzag.{zigzag}
 use Rattle.utf8.specs.WellFormed.{checkText, wellFormed}
@@ -25,19 +24,12 @@ use Rattle.cell.specs.Content.{Content, letters}
 use Rattle.cell.specs.Written.{blockBytes}
 use Rattle.cell.specs.ValueList.{item}
 use Rattle.cell.specs.Listing.{used, held, blockLen, judged, Judged}
+use Rattle.cell.proofs.Numbers.{leb-most}
 use Rattle.cell.proofs.BlockWriting.{blocks, held-none}
 
 -- ---- lengths
-pub leb-most : (v : ℕ) → length (lebBytes v) ≤ 10
-unfolding lebBytes
-leb-most v = groups-most 10 v
-
-module _ (value : ℕ) where
-  pub len-is : {r : ℕ} → r ≡ lenU64 value → r ≡ length (lebBytes value)
-  len-is e = e
-
-  pub len-most : {r : ℕ} → r ≡ lenU64 value → r ≤ 10
-  len-most e = rw (len-is e) (leb-most value)
+pub len-most : (value : ℕ) {r : ℕ} → r ≡ lenU64 value → r ≤ 10
+len-most value e = rw e (leb-most value)
 
 module _ (kind word : ℕ) where
   pub len-none : 4 < kind → 0 ≡ blockLen kind word
@@ -171,7 +163,6 @@ module _ (kind word from : ℕ) (s : List ℕ) where
 
 pub ruleset judging = (
   blocks,
-  len-is,
   len-most,
   len-none,
   len-integer,

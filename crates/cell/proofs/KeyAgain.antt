@@ -2,20 +2,18 @@
 -- references and interior entries share of that.
 -- Assumes nothing.
 use mathlib.Core.Path.{_≡_, refl, sym, _∙_, ap}
-use mathlib.Core.Bool.{Bool, true, false}
-use mathlib.Core.List.{List, _++_, append-assoc, append-nil}
+use mathlib.Core.List.{List, _++_, append-nil}
 use Prim.Native.Nat.{ℕ, _+_, _-_, _^_, _<_}
-use native.Mathlib.Nat.{zero-add}
 use native.Mathlib.Omega.{arith}
 use lib.Dec.{ltb, eqb}
 use lib.IntN.{ℤ}
-use lib.ListN.{length, take, drop, getD, length-append, length-drop, take-append-drop}
-use lib.Seq.{drop-append-seam, take-append-seam, length-take-le, drop-length, take-at}
+use lib.ListN.{length, take, drop, getD, take-append-drop}
+use lib.Seq.{drop-length}
 use mir.Syntax.{w64}
 use mir.Val.{SFits}
 use borrow.Author.Tests.{eq-eqb, ne-eqb, eqb-true}
-use Rattle.paper.specs.Answer.{Answer, gives, refuses, andThen, pick}
-use Rattle.paper.proofs.Laws.{gives-one, gives-refuses, first, second}
+use Rattle.paper.specs.Answer.{Answer, gives, andThen, pick}
+use Rattle.paper.proofs.Laws.{gives-one, first, second}
 use Rattle.field.specs.Field.{le, bytes}
 use Rattle.varint.specs.Leb.{readU64, lebBytes}
 use Rattle.varint.specs.Number.{readI64}
@@ -23,21 +21,14 @@ use Rattle.varint.specs.Standard.{Bytes}
 use Rattle.varint.specs.Zigzag.{zigzag, unzigzag}
 use Rattle.varint.proofs.Laws.{read-is}
 use Rattle.varint.proofs.Zigzag.{back, forth, unsigned-fits, signed-fits}
-use Rattle.cell.specs.Entry.{bodyAt, entry}
-use Rattle.cell.specs.Keyed.{keyedAt, pageAt, withLength, keyedBytes}
-use Rattle.cell.specs.Plain.{Given, PlainNumber}
-use Rattle.cell.proofs.KeyBack.{entry-back}
-use Rattle.cell.proofs.PlainWritten.{Fills, fills-both, fills-byte, fills-part, number-fills, field-fills, number-plain}
+use Rattle.cell.specs.Entry.{bodyAt, entry, withLength}
+use Rattle.cell.specs.Keyed.{keyedAt, pageAt, keyedBytes}
+use Rattle.cell.specs.Plain.{PlainNumber, PlainEntry}
+use Rattle.cell.proofs.Accepting.{not-refused, not-other, then-gave}
+use Rattle.cell.proofs.PlainWritten.{Fills, fills-both, fills-byte, number-fills, field-fills, number-plain, length-fills, behind-plain}
 use Rattle.cell.proofs.ReadWritten.{bytes-take}
-use Rattle.cell.proofs.Reread.{Stands, stands-number}
-use Rattle.cell.proofs.Whole.{Whole, whole-is, HasKey, keyed-key}
+use Rattle.cell.proofs.Whole.{Whole, whole-is, entry-back, HasKey, keyed-key}
 use Rattle.cell.proofs.WrittenRead.{bytes-drop, le-below}
-
--- a reader that was accepted was accepted step by step
-pub then-gave : {A B : Type 0} (q : Answer A) (f : A → Answer B) {b : B} → andThen q f ≡ gives b → (a : A) × (q ≡ gives a) × (f a ≡ gives b)
-unfolding andThen
-then-gave (gives a) f e = (a, refl, e)
-then-gave (refuses k) f e = absurd (gives-refuses (sym e))
 
 -- ---- a key that was read
 module _ (kind : ℕ) (body : List ℕ) {rowid : ℤ} {at : ℕ} (e : keyedAt kind body ≡ gives (rowid, at)) where
@@ -71,14 +62,12 @@ module _ (kind : ℕ) (body : List ℕ) {rowid : ℤ} {at : ℕ} (e : keyedAt ki
 -- ---- a page number that was read
 module _ (body : List ℕ) (at : ℕ) {page : ℕ} (e : pageAt body at ≡ gives page) where
   page-number : (at + 4 ≡ length body) × (le 4 at body ≡ page)
-  unfolding pageAt pick
-  page-number = by (ltb (length body - at) 4) (eqb (length body - at) 4) refl e
-    where
-      by : (t u : Bool) → eqb (length body - at) 4 ≡ u → pick t (refuses 6) (pick u (gives (le 4 at body)) (refuses 10)) ≡ gives page
-          → (at + 4 ≡ length body) × (le 4 at body ≡ page)
-      by true u h f = absurd (gives-refuses (sym f))
-      by false true h f = let k : length body - at ≡ 4 = eqb-true (length body - at) 4 h in (omega arith, gives-one f)
-      by false false h f = absurd (gives-refuses (sym f))
+  unfolding pageAt
+  page-number =
+      let (t, f) = not-refused (ltb (length body - at) 4) 6 _ e in
+      let (u, g) = not-other (eqb (length body - at) 4) 10 _ f in
+      let k : length body - at ≡ 4 = eqb-true (length body - at) 4 u in
+      (omega arith, gives-one g)
 
   module _ (b : Bytes body) where
     pub page-small : page < 2 ^ 32
@@ -100,10 +89,6 @@ pub record Again {A : Type 0} (read : List ℕ → Answer A) (Plainly : List ℕ
   pub same : Plainly body → new ≡ body
   pub plain : Plainly new
 
--- an entry is plain where its length has its shortest form and its body is plain
-abbrev pub PlainEntry : (List ℕ → Type 0) → List ℕ → Type 0
-PlainEntry Plainly s = PlainNumber s 0 × Given (readU64 s 0) (λ (len, n). Plainly (bodyAt s n len))
-
 module _ {A : Type 0} (read : List ℕ → Answer A) (write : A → List ℕ) (Plainly : List ℕ → Type 0)
     (again : (body : List ℕ) (a : A) → Bytes body → read body ≡ gives a → Again read Plainly body a (write a))
     (s : List ℕ) {a : A} {size : ℕ} (b : Bytes s) (e : entry read s ≡ gives (a, size)) where
@@ -119,27 +104,12 @@ module _ {A : Type 0} (read : List ℕ → Answer A) (write : A → List ℕ) (P
 
   -- a plain entry is the same bytes
   pub entry-plain-written : PlainEntry Plainly s → withLength (write a) ≡ take size s
-  unfolding withLength readU64
+  unfolding readU64
   entry-plain-written p =
-      let n : ℕ = w .place in
-      let len : ℕ = w .len in
-      let f = w .frame in
-      let l : length (bodyAt s n len) ≡ len = length-take-le len (drop n s) (rw (length-drop n s) (omega (arith, f .inside))) in
-      let start : Fills s 0 (lebBytes len) n = rw (zero-add n) at (number-fills s 0 b (f .read) (p .0)) in
-      let all = fills-both start (fills-part s n len) in
-      let m : length (lebBytes len ++ bodyAt s n len) ≡ n + len
-      = length-append (lebBytes len) (bodyAt s n len) ∙ rw (l, ← p .0 (len, n) (f .read) .taken) in
-      let front : take (n + len) s ≡ lebBytes len ++ bodyAt s n len = ap (take (n + len)) (all .is) ∙ take-at (lebBytes len ++ bodyAt s n len) (drop (n + len) s) (n + len) m in
-      rw (← w .sum, body-again .same (p .1 (len, n) (f .read)), l, front)
+      rw (← w .sum, body-again .same (p .1 (w .len, w .place) (w .frame .read))) (length-fills s b (w .frame) (p .0))
 
   -- and no other is
   pub entry-written-plain : withLength (write a) ≡ take size s → PlainEntry Plainly s
-  unfolding withLength
   entry-written-plain same =
-      let new : List ℕ = write a in
-      let n : ℕ = length new in
-      let t : List ℕ = drop size s in
-      let z : lebBytes n ++ (new ++ t) ≡ s = rw (← append-assoc (lebBytes n) new t, same) (take-append-drop size s) in
-      let v : Stands s 0 (lebBytes n) (new ++ t) = record { within = omega arith; is = sym z } in
-      let d : bodyAt s (length (lebBytes n)) n ≡ new = rw (← z, drop-append-seam (lebBytes n) (new ++ t), take-append-seam new t) in
-      (number-plain n (body-again .short) v, λ x g. rw (← gives-one (sym (stands-number n (body-again .short) v) ∙ g), d) (body-again .plain))
+      let z : withLength (write a) ++ drop size s ≡ s = rw same (take-append-drop size s) in
+      rw z at (behind-plain Plainly (write a) (body-again .short) (body-again .plain) (drop size s))

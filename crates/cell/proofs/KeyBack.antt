@@ -1,45 +1,25 @@
 -- What overflow references and interior entries share reads back as it was written.
 -- Assumes nothing.
 use mathlib.Core.Path.{_≡_, refl, sym, _∙_, ap}
-use mathlib.Core.List.{List, [], _∷_, _++_, append-assoc, append-nil}
+use mathlib.Core.List.{List, [], _∷_, _++_, append-nil}
 use Prim.Native.Nat.{ℕ, suc, _+_, _-_, _^_, _≤_, _<_}
 use native.Mathlib.Nat.{add-zero}
 use native.Mathlib.Omega.{arith}
 use lib.IntN.{ℤ}
-use lib.ListN.{length, drop, length-append, length-drop}
-use lib.Seq.{drop-append-seam, take-append-seam, drop-drop}
+use lib.ListN.{length, drop, length-drop}
+use lib.Seq.{drop-append-seam, drop-drop}
 use mir.Syntax.{w64}
 use mir.Val.{SFits}
 use borrow.Author.Tests.{le-ltb, eq-eqb, ne-eqb}
-use Rattle.paper.specs.Answer.{Answer, gives, andThen, pick}
+use Rattle.paper.specs.Answer.{gives, andThen, pick}
 use Rattle.field.specs.Field.{le, bytes}
 use Rattle.field.proofs.Laws.{le-drop, le-bytes}
 use Rattle.field.proofs.Storing.{length-bytes}
 use Rattle.varint.specs.Leb.{lebBytes}
 use Rattle.varint.specs.Number.{readI64, lenI64}
 use Rattle.varint.specs.Zigzag.{zigzag}
-use Rattle.varint.proofs.Standard.{written-read}
 use Rattle.varint.proofs.Zigzag.{signed-written-read}
-use Rattle.cell.specs.Entry.{framed, entry}
-use Rattle.cell.specs.Keyed.{keyedAt, pageAt, withLength, keyedBytes}
-
--- an entry whose body reads back
-pub entry-back : {A : Type 0} (read : List ℕ → Answer A) (body : List ℕ) {a : A} → length body < 2 ^ 64 → read body ≡ gives a → (t : List ℕ)
-    → entry read (withLength body ++ t) ≡ gives (a, length (withLength body))
-unfolding entry framed withLength andThen pick
-entry-back read body l e t =
-    let k : (lebBytes (length body) ++ body) ++ t ≡ lebBytes (length body) ++ (body ++ t) = append-assoc (lebBytes (length body)) body t in
-    let r : length body ≤ length (lebBytes (length body) ++ (body ++ t)) - length (lebBytes (length body))
-    = rw (length-append (lebBytes (length body)) (body ++ t), length-append body t) (omega arith) in
-    rw (
-      k,
-      written-read (length body) l (body ++ t),
-      le-ltb (length (lebBytes (length body) ++ (body ++ t)) - length (lebBytes (length body))) (length body) r,
-      drop-append-seam (lebBytes (length body)) (body ++ t),
-      take-append-seam body t,
-      e,
-      length-append (lebBytes (length body)) body,
-    )
+use Rattle.cell.specs.Keyed.{keyedAt, pageAt, keyedBytes}
 
 module _ (kind : ℕ) (z : ℤ) (rest : List ℕ) (f : SFits w64 z) where
   pub key-back : keyedAt kind (keyedBytes kind z rest) ≡ gives (z, 1 + length (lebBytes (zigzag z)))

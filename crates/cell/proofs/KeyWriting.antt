@@ -7,25 +7,20 @@ use native.Mathlib.Omega.{arith}
 use lib.IntN.{ℤ}
 use mir.Syntax.{w64}
 use mir.Val.{Fits, SFits, ofZ, toZ}
-use mir.ValLaws.{toZ-ofZ}
 use Rattle.varint.specs.Zigzag.{zigzag}
 use lib.ListN.{length, take, drop, set, length-append}
-use borrow.Author.Tests.{lt-ltb, le-ltb}
 use borrow.Rule.Slice.PartMut.{putMid}
-use Rattle.paper.specs.Answer.{pick, over, put, sizeOf}
+use Rattle.paper.specs.Answer.{over, put, sizeOf}
 use Rattle.field.specs.Field.{bytes}
 use Rattle.field.proofs.Storing.{length-bytes}
 use Rattle.varint.specs.Leb.{lebBytes}
 use Rattle.varint.specs.Paper.{paperWrote}
 use Rattle.varint.specs.declared.Wrote.the-variants as W
-use Rattle.varint.proofs.Limits.{groups-last, groups-most}
-use Rattle.cell.specs.Keyed.{keyOf, overAt, withLength, keyedBytes, fitted}
-use Rattle.cell.proofs.Placing.{lent, then-over, over-then, placing}
-
--- a varint has ten bytes at most
-pub leb-most : (v : ℕ) → length (lebBytes v) ≤ 10
-unfolding lebBytes
-leb-most v = groups-most 10 v
+use Rattle.varint.proofs.Limits.{groups-last}
+use Rattle.cell.specs.Entry.{withLength, fitted}
+use Rattle.cell.specs.Keyed.{keyOf, overAt, keyedBytes}
+use Rattle.cell.proofs.Numbers.{leb-most, id-is}
+use Rattle.cell.proofs.Placing.{lent, then-over, over-then, short-size, short-output, whole-size, whole-output, placing}
 
 pub two-first : (out : List ℕ) (a b : ℕ) → 2 ≤ length out → set (set out 0 a) 1 b ≡ over out (a ∷ b ∷ [])
 unfolding over
@@ -54,13 +49,12 @@ page-after out front y z page n d e l f = f ∙ rw d (over-then out front (bytes
 
 -- ---- the whole: a short body's length is one byte, and the room decides
 
--- a signed number comes as the number of its bits
 module _ (kind : ℕ) (z : ℤ) (rest : List ℕ) {id a size : ℕ} (fits : SFits w64 z) (i : id ≡ zigzag (toZ w64 (ofZ w64 z))) (e : a ≡ length (lebBytes id))
     (n : size ≡ 1 + a + length rest) (small : size < 128) where
   entry-is : withLength (keyedBytes kind z rest) ≡ keyOf size kind id ++ rest
   unfolding withLength keyedBytes keyOf lebBytes
   entry-is =
-      let d : id ≡ zigzag z = rw (toZ-ofZ w64 z fits) at i in
+      let d : id ≡ zigzag z = id-is z fits i in
       let k : length (kind ∷ (lebBytes id ++ rest)) ≡ size = rw (length-append (lebBytes id) rest) (omega arith) in
       rw (← d, k, groups-last 9 size small)
 
@@ -70,21 +64,17 @@ module _ (kind : ℕ) (z : ℤ) (rest : List ℕ) {id a size : ℕ} (fits : SFit
 
   module _ (out : List ℕ) where
     pub refused-size : length out < 1 + size → paperWrote (W.Refused 16) ≡ sizeOf (fitted (length out) (withLength (keyedBytes kind z rest)))
-    unfolding paperWrote sizeOf fitted pick
-    refused-size l = rw (lt-ltb (length out) (length (withLength (keyedBytes kind z rest))) (rw keyed-length l))
+    refused-size l = short-size out (withLength (keyedBytes kind z rest)) keyed-length l
 
     pub refused-output : length out < 1 + size → out ≡ put out (fitted (length out) (withLength (keyedBytes kind z rest)))
-    unfolding put fitted pick
-    refused-output l = rw (lt-ltb (length out) (length (withLength (keyedBytes kind z rest))) (rw keyed-length l))
+    refused-output l = short-output out (withLength (keyedBytes kind z rest)) keyed-length l
 
     pub written-size : 1 + size ≤ length out → paperWrote (W.Bytes (1 + size)) ≡ sizeOf (fitted (length out) (withLength (keyedBytes kind z rest)))
-    unfolding paperWrote sizeOf fitted pick
-    written-size l = rw (le-ltb (length out) (length (withLength (keyedBytes kind z rest))) (rw keyed-length l), keyed-length)
+    written-size l = whole-size out (withLength (keyedBytes kind z rest)) keyed-length l
 
     pub written-output : {new : List ℕ} → 1 + size ≤ length out → new ≡ over out (keyOf size kind id ++ rest)
         → new ≡ put out (fitted (length out) (withLength (keyedBytes kind z rest)))
-    unfolding put fitted pick
-    written-output l f = rw (le-ltb (length out) (length (withLength (keyedBytes kind z rest))) (rw keyed-length l)) (f ∙ ap (over out) (sym entry-is))
+    written-output l f = f ∙ ap (over out) (sym entry-is) ∙ whole-output out (withLength (keyedBytes kind z rest)) keyed-length l
 
 -- ---- the size of such a body, which holds one varint or two
 module _ (v : ℕ) {a : ℕ} (e : a ≡ length (lebBytes v)) where

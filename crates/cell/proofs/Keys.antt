@@ -3,10 +3,9 @@
 use mathlib.Core.Path.{_≡_, refl, _∙_, ap}
 use mathlib.Core.List.{List}
 use Prim.Native.Nat.{ℕ, _+_, _-_, _*_, _^_, _≤_, _<_}
-use native.Mathlib.Nat.{add-zero, le-of-eq}
+use native.Mathlib.Nat.{add-zero}
 use native.Mathlib.Omega.{arith}
-use lib.ListN.{length, take, drop, getD, length-drop}
-use lib.Seq.{take-all}
+use lib.ListN.{length, take, drop, getD}
 use mir.Syntax.{w32}
 use mir.Val.{Fits}
 use borrow.Author.Needs.{needs}
@@ -20,6 +19,7 @@ use Rattle.varint.proofs.Places.{at-short, at-long, at-value, at-inside, signed
 use Rattle.cell.specs.Entry.{entry}
 use Rattle.cell.specs.Keyed.{Keyed, PageWord, keyedAt, pageAt}
 use Rattle.cell.specs.Words.{Frame}
+use Rattle.cell.proofs.Placing.{rest-all}
 
 -- ---- the page number
 module _ (body : List ℕ) (at : ℕ) where
@@ -38,7 +38,7 @@ module _ (body : List ℕ) (at : ℕ) where
   pub page-given : {p : ℕ} → length body - at ≡ 4 → p ≡ le 4 0 (take (length body - at) (drop at body)) → Fits w32 p → PageWord body at p
   unfolding pageAt pick
   page-given {p} l e f =
-      let d : p ≡ le 4 (at + 0) body = e ∙ ap (le 4 0) (take-all (length body - at) (drop at body) (le-of-eq (length-drop at body))) ∙ le-drop 4 0 at body in
+      let d : p ≡ le 4 (at + 0) body = e ∙ ap (le 4 0) (rest-all body at) ∙ le-drop 4 0 at body in
       let g : p ≡ le 4 at body = rw (add-zero at) at d in
       let b : p < 2 ^ 32 = f .fits in
       record {
@@ -111,4 +111,4 @@ module _ {A : Type 0} (read : List ℕ → Answer A) (s : List ℕ) {at end : �
         let n : at + (end - at) ≡ end = omega arith in
         rw (← f .given l, ← g, n)
 
-pub ruleset keys = (needs, at-inside, page-cut, page-left, page-given, key-empty, key-other, key-short, key-long, key-given)
+pub ruleset keys = (needs, page-cut, page-left, page-given, key-empty, key-other, key-short, key-long, key-given)

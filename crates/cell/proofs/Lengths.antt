@@ -9,31 +9,19 @@ use lib.ListN.{length, drop, length-append, length-drop}
 use mir.Syntax.{w64}
 use mir.Val.{toZ}
 use Rattle.paper.specs.Answer.{pick}
-use Rattle.varint.specs.Leb.{lebBytes, lenU64}
+use Rattle.varint.specs.Leb.{lebBytes}
 use Rattle.varint.specs.Zigzag.{zigzag}
 use Rattle.cell.specs.Block.{bitmapBytes}
-use Rattle.cell.specs.Content.{Content, Row}
-use Rattle.cell.specs.Written.{blockBytes, blocksBytes, bitmap, bodyBytes, entryBytes}
+use Rattle.cell.specs.Content.{Content}
+use Rattle.cell.specs.Written.{blockBytes, blocksBytes, bitmap, bodyBytes}
 use Rattle.cell.specs.Listing.{used, held, blockLen, usedAll, heldAll}
-use Rattle.cell.proofs.Numbers.{leb-some}
-use Rattle.cell.proofs.Judging.{leb-most, block-length, len-none}
+use Rattle.cell.proofs.Numbers.{leb-most}
+use Rattle.cell.proofs.Judging.{block-length, len-none}
 
 pub bitmap-length : (n : ℕ) (cs : List Content) → length (bitmap n cs) ≡ n
 unfolding bitmap
 bitmap-length zero cs = refl
 bitmap-length (suc n) cs = ap suc (bitmap-length n (drop 8 cs))
-
--- ---- an entry is its body and the body's length, and both have bytes
-pub entry-length : (row : Row) → length (entryBytes row) ≡ lenU64 (length (bodyBytes row)) + length (bodyBytes row)
-unfolding entryBytes
-entry-length row = length-append (lebBytes (length (bodyBytes row))) (bodyBytes row)
-
-pub body-some : (row : Row) → 1 ≤ length (bodyBytes row)
-unfolding bodyBytes
-body-some (rowid, cs) = omega arith
-
-pub entry-some : (row : Row) → 2 ≤ length (entryBytes row)
-entry-some row = omega (arith, entry-length row, body-some row, leb-some (length (bodyBytes row)))
 
 -- ---- a row that was listed is short: eleven bytes a column, and its data
 block-most : (kind word : ℕ) → blockLen kind word ≤ 11 + used kind word

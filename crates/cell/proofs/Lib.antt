@@ -16,10 +16,13 @@ pub mod Measuring
 pub mod Listed
 pub mod Writing
 pub mod KeyWriting
+pub mod Accepting
 pub mod Whole
 pub mod Lengths
 pub mod Reread
 pub mod WrittenRead
+pub mod ColumnRead
+pub mod ColumnBack
 pub mod KeyBack
 pub mod ReadWritten
 pub mod PlainWritten

@@ -27,13 +27,14 @@ pub bit-other : (kind : ℕ) → (kind ≡ 255 → ⊥) → 0 ≡ kindBit kind
 unfolding kindBit
 bit-other kind k = search paper
 
+pub one-bit : (b : Bool) → pick b 1 0 ≤ 1
+unfolding pick
+one-bit true = omega arith
+one-bit false = omega arith
+
 bit-most : (kind : ℕ) → kindBit kind ≤ 1
-unfolding kindBit pick
-bit-most kind = by (eqb kind 255)
-  where
-    by : (t : Bool) → pick t 1 0 ≤ 1
-    by true = omega arith
-    by false = omega arith
+unfolding kindBit
+bit-most kind = one-bit (eqb kind 255)
 
 bits-below : (kinds : List ℕ) → kindBits kinds < 2 ^ length kinds
 unfolding kindBits
@@ -65,7 +66,7 @@ module _ {kinds : List ℕ} {byte c : ℕ} (w : Nulls kinds byte c) where
         let e : byte ≡ kindBits (drop c kinds) = w .same in
         omega arith
 
-    pub nulls-inside : c - 1 < length kinds
+    nulls-inside : c - 1 < length kinds
     nulls-inside = omega (arith, w .inside)
 
     pub nulls-double : Fits w8 (2 * byte)
@@ -141,7 +142,6 @@ pub ruleset nulls = (
   bit-other,
   nulls-start,
   nulls-end,
-  nulls-inside,
   nulls-double,
   nulls-fit,
   nulls-more,

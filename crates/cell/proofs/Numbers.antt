@@ -1,11 +1,19 @@
--- A varint has a byte at least.
+-- A varint has ten bytes at most; a signed number comes as the number of its bits.
 -- Assumes nothing.
-use Prim.Native.Nat.{ℕ, _-_, _≤_}
+use mathlib.Core.Path.{_≡_}
+use Prim.Native.Nat.{ℕ, _≤_}
+use lib.IntN.{ℤ}
 use lib.ListN.{length}
+use mir.Syntax.{w64}
+use mir.Val.{SFits, ofZ, toZ}
+use mir.ValLaws.{toZ-ofZ}
 use Rattle.varint.specs.Leb.{lebBytes}
-use Rattle.varint.proofs.Limits.{groups-some}
+use Rattle.varint.specs.Zigzag.{zigzag}
+use Rattle.varint.proofs.Limits.{groups-most}
 
--- ---- the varint
-pub leb-some : (v : ℕ) → 1 ≤ length (lebBytes v)
+pub leb-most : (v : ℕ) → length (lebBytes v) ≤ 10
 unfolding lebBytes
-leb-some v = groups-some 9 v
+leb-most v = groups-most 10 v
+
+pub id-is : (z : ℤ) {id : ℕ} → SFits w64 z → id ≡ zigzag (toZ w64 (ofZ w64 z)) → id ≡ zigzag z
+id-is z f i = rw (toZ-ofZ w64 z f) at i

@@ -9,8 +9,12 @@ use native.Mathlib.Omega.{arith}
 use lib.ListN.{length, take, drop, getD, set, length-append, length-drop, length-set, drop-of-length-le}
 use lib.Seq.{take-all, length-take-le, drop-drop, drop-cons, sets, sets-eq, take-at, drop-at}
 use borrow.Author.Needs.{needs}
+use borrow.Author.Tests.{lt-ltb, le-ltb}
 use borrow.Rule.Slice.PartMut.{putMid}
-use Rattle.paper.specs.Answer.{over}
+use Rattle.paper.specs.Answer.{pick, over, put, sizeOf}
+use Rattle.varint.specs.Paper.{paperWrote}
+use Rattle.varint.specs.declared.Wrote.the-variants as W
+use Rattle.cell.specs.Entry.{fitted}
 use Rattle.cell.specs.Keyed.{overAt}
 
 -- what a part that goes to the end is
@@ -65,6 +69,24 @@ module _ (out a b x new : List ℕ) (n : ℕ) where
   then-over d e l f =
       let k : length x ≡ length out = ap length d ∙ length-over out a (omega arith) in
       lent x n b f (omega arith) ∙ rw d (over-then out a b n e l)
+
+-- ---- an entry into an output: the room decides
+module _ (out entry : List ℕ) {n : ℕ} (e : length entry ≡ n) where
+  pub short-size : length out < n → paperWrote (W.Refused 16) ≡ sizeOf (fitted (length out) entry)
+  unfolding paperWrote sizeOf fitted pick
+  short-size l = rw (lt-ltb (length out) (length entry) (rw e l))
+
+  pub short-output : length out < n → out ≡ put out (fitted (length out) entry)
+  unfolding put fitted pick
+  short-output l = rw (lt-ltb (length out) (length entry) (rw e l))
+
+  pub whole-size : n ≤ length out → paperWrote (W.Bytes n) ≡ sizeOf (fitted (length out) entry)
+  unfolding paperWrote sizeOf fitted pick
+  whole-size l = rw (le-ltb (length out) (length entry) (rw e l), e)
+
+  pub whole-output : n ≤ length out → over out entry ≡ put out (fitted (length out) entry)
+  unfolding put fitted pick
+  whole-output l = rw (le-ltb (length out) (length entry) (rw e l))
 
 -- ---- a loop that stores byte after byte
 pub record Storing (out₀ bytes out : List ℕ) (i : ℕ) : Type 0 where

@@ -11,7 +11,7 @@ use lib.Dec.{ltb, leb, eqb}
 use lib.Ieee.{ofBits, binary64}
 use lib.IntN.{ℤ}
 use lib.ListN.{length, take, drop, getD, replicate, length-append, length-drop, length-map, take-append-drop, List·getD-append, List·getD-eq-default}
-use lib.Seq.{drop-append-seam, take-append-seam, length-take-le, getD-take, getD-drop, drop-drop, drop-cons, drop-length, take-at, take-nil}
+use lib.Seq.{length-take-le, getD-take, getD-drop, drop-drop, drop-cons, drop-length, take-at, take-nil}
 use lib.Pow.{shr-shr, shr-lt}
 use mir.Syntax.{w64}
 use mir.Val.{SFits}
@@ -29,15 +29,17 @@ use Rattle.varint.proofs.Zigzag.{forth, unsigned-fits}
 use Rattle.utf8.specs.WellFormed.{checkText, checkAt}
 use Rattle.cell.specs.Block.{Block, null, integer, real, bool, text, vector, block, blockOf, isNull, bitmapBytes, columns}
 use Rattle.cell.specs.Content.{Content, none, whole, float, truth, letters, floats, contentOf}
-use Rattle.cell.specs.Entry.{framed, bodyAt, entry}
+use Rattle.cell.specs.Entry.{framed, bodyAt, entry, withLength}
 use Rattle.cell.specs.Local.{blocksAt, rowOf, localBody, cellFrom}
-use Rattle.cell.specs.Plain.{Shortest, PlainNumber, PlainBlock, PlainColumns, SpareClear, PlainBody, Plain}
+use Rattle.cell.specs.Plain.{Shortest, PlainNumber, PlainBlock, PlainColumns, SpareClear, PlainBody, PlainEntry, Plain}
 use Rattle.cell.specs.Written.{blockBytes, blocksBytes, nullBit, nullBits, bitmap, bodyBytes, entryBytes}
+use Rattle.cell.proofs.Blocks.{read-inside, unknown}
 use Rattle.cell.proofs.Lengths.{bitmap-length}
 use Rattle.cell.proofs.Listed.{Sound, AllSound}
-use Rattle.cell.proofs.ReadWritten.{ShortRow, FineRow, unknown, body-fine, bytes-take, part-most, framed-fits}
+use Rattle.cell.proofs.Nulls.{one-bit}
+use Rattle.cell.proofs.ReadWritten.{ShortRow, FineRow, body-fine, bytes-take, part-most, framed-fits}
 use Rattle.cell.proofs.Reread.{Stands, Nulled, stands-first, stands-second, stands-head, stands-tail, stands-number, bit-small, byte-at, nulled-from, column-read}
-use Rattle.cell.proofs.Whole.{framing}
+use Rattle.cell.proofs.Whole.{part-length, Framing, framing, written-body}
 use Rattle.cell.proofs.WrittenRead.{byte-below, bytes-drop}
 
 -- ---- bytes that fill a list from a place up to the next
@@ -150,7 +152,7 @@ module _ (body : List ℕ) (at : ℕ) (b : Bytes body) (inside : at < length bod
       by true f (refuses k) = tt
       by true f (gives u) =
           let i : at + 1 + n + len ≤ length body = leb-true (at + 1 + n + len) (length body) f in
-          let k : length (take len (drop (at + 1 + n) body)) ≡ len = length-take-le len (drop (at + 1 + n) body) (rw (length-drop (at + 1 + n) body) (omega arith)) in
+          let k : length (take len (drop (at + 1 + n) body)) ≡ len = part-length len (at + 1 + n) body i in
           rw k (tagged-fills t (fills-both (number-fills body (at + 1) b e (p .text t)) (fills-part body (at + 1 + n) len)), refl)
 
   vector-same : getD body at 0 ≡ 4 → (a : Answer (ℕ × ℕ)) → readU64 body (at + 1) ≡ a
@@ -164,7 +166,7 @@ module _ (body : List ℕ) (at : ℕ) (b : Bytes body) (inside : at < length bod
       by true f = tt
       by false f =
           let i : dim ≤ (length body - (at + 1 + n)) / 4 = ltb-false ((length body - (at + 1 + n)) / 4) dim f in
-          let k : length (take (4 * dim) (drop (at + 1 + n) body)) ≡ 4 * dim = length-take-le (4 * dim) (drop (at + 1 + n) body) (rw (length-drop (at + 1 + n) body) (omega arith)) in
+          let k : length (take (4 * dim) (drop (at + 1 + n) body)) ≡ 4 * dim = part-length (4 * dim) (at + 1 + n) body (omega (arith, read-inside body (at + 1) e)) in
           let d : 4 * dim / 4 ≡ dim = omega arith in
           rw (k, d) (tagged-fills t (fills-both (number-fills body (at + 1) b e (p .vector t)) (fills-part body (at + 1 + n) (4 * dim))), refl)
 
@@ -382,6 +384,18 @@ body-same body b p = by (eqb (length body) 0) refl (eqb (getD body 0 0) 1) refl
         row-same body b (omega (arith, z)) (eqb-true (getD body 0 0) 1 f) p
     by false e false f = tt
 
+-- ---- an entry whose length has its shortest form is its body, written behind its length
+pub length-fills : (s : List ℕ) {n len : ℕ} → Bytes s → Framing s n len → PlainNumber s 0 → withLength (bodyAt s n len) ≡ take (n + len) s
+unfolding withLength readU64
+length-fills s {n} {len} b w p =
+    let l : length (bodyAt s n len) ≡ len = part-length len n s (w .inside) in
+    let start : Fills s 0 (lebBytes len) n = rw (zero-add n) at (number-fills s 0 b (w .read) p) in
+    let all = fills-both start (fills-part s n len) in
+    let m : length (lebBytes len ++ bodyAt s n len) ≡ n + len
+    = length-append (lebBytes len) (bodyAt s n len) ∙ rw (l, ← p (len, n) (w .read) .taken) in
+    let front : take (n + len) s ≡ lebBytes len ++ bodyAt s n len = ap (take (n + len)) (all .is) ∙ take-at (lebBytes len ++ bodyAt s n len) (drop (n + len) s) (n + len) m in
+    rw (l, front)
+
 -- ---- the theorem: a plain entry is written as it was read
 pub plain-written : (s : List ℕ) {n len size : ℕ} {rowid : ℤ} {bs : List Block} → Bytes s → Plain s → framed s ≡ gives (n, len)
     → cellFrom s ≡ gives ((rowid, bs), size) → entryBytes (rowid, map (contentOf (bodyAt s n len)) bs) ≡ take size s
@@ -397,13 +411,7 @@ plain-written s {n} {len} {size} {rowid} {bs} b p f e =
         let c : r ≡ rowid = ap (λ (q : (ℤ × List Block) × ℕ). q .0 .0) (gives-one g) in
         let d : xs ≡ bs = ap (λ (q : (ℤ × List Block) × ℕ). q .0 .1) (gives-one g) in
         let z : n + len ≡ size = ap second (gives-one g) in
-        let l : length (bodyAt s n len) ≡ len = length-take-le len (drop n s) (rw (length-drop n s) (omega (arith, w .inside))) in
-        let start : Fills s 0 (lebBytes len) n = rw (zero-add n) at (number-fills s 0 b (w .read) (p .0)) in
-        let all = fills-both start (fills-part s n len) in
-        let m : length (lebBytes len ++ bodyAt s n len) ≡ n + len
-        = length-append (lebBytes len) (bodyAt s n len) ∙ rw (l, ← p .0 (len, n) (w .read) .taken) in
-        let front : take (n + len) s ≡ lebBytes len ++ bodyAt s n len = ap (take (n + len)) (all .is) ∙ take-at (lebBytes len ++ bodyAt s n len) (drop (n + len) s) (n + len) m in
-        rw (← z, ← c, ← d, ← h, l, front)
+        rw (← z, ← c, ← d, ← h) (length-fills s b w (p .0))
 
 -- ---- what is written is plain
 
@@ -435,11 +443,6 @@ module _ {s : List ℕ} {at : ℕ} {b : List ℕ} (v : ℕ) (l : v < 2 ^ 64) (w 
   pub number-plain : PlainNumber s at
   number-plain a e = rw (← gives-one (sym (stands-number v l w) ∙ e)) shortest
 
-byte-low : (b : Bool) → pick b 1 0 ≤ 1
-unfolding pick
-byte-low true = omega arith
-byte-low false = omega arith
-
 module _ {body : List ℕ} {at : ℕ} {t : List ℕ} where
   block-plain : (c : Content) → Sound c → (nullBit c ≡ 1 → ⊥) → Stands body at (blockBytes c) t → PlainBlock body at
   unfolding blockBytes nullBit
@@ -460,7 +463,7 @@ module _ {body : List ℕ} {at : ℕ} {t : List ℕ} where
       record {
         integer = λ e. absurd (omega arith);
         text = λ e. absurd (omega arith);
-        bool = λ _. rw (stands-head (stands-tail w)) (byte-low b);
+        bool = λ _. rw (stands-head (stands-tail w)) (one-bit b);
         vector = λ e. absurd (omega arith);
       }
   block-plain (letters v) s z w =
@@ -547,20 +550,18 @@ module _ (rowid : ℤ) (cs : List Content) (f : SFits w64 rowid) (s : AllSound c
         ),
       )
 
-  entry-plain : length (bodyBytes (rowid, cs)) < 2 ^ 64 → (t : List ℕ) → Plain (entryBytes (rowid, cs) ++ t)
-  unfolding Plain entryBytes
-  entry-plain k t =
-      let body : List ℕ = bodyBytes (rowid, cs) in
-      let n : ℕ = length body in
-      let w : Stands ((lebBytes n ++ body) ++ t) 0 (lebBytes n) (body ++ t) = record { within = omega arith; is = append-assoc (lebBytes n) body t } in
-      let d : bodyAt ((lebBytes n ++ body) ++ t) (lenU64 n) n ≡ body
-      = rw (append-assoc (lebBytes n) body t, drop-append-seam (lebBytes n) (body ++ t), take-append-seam body t) in
-      (number-plain n k w, λ a e. rw (← gives-one (sym (stands-number n k w) ∙ e), d) body-plain)
+-- a plain body, written behind its length, is a plain entry
+pub behind-plain : (Plainly : List ℕ → Type 0) (body : List ℕ) → length body < 2 ^ 64 → Plainly body → (t : List ℕ) → PlainEntry Plainly (withLength body ++ t)
+unfolding withLength
+behind-plain Plainly body k p t =
+    let n : ℕ = length body in
+    let w : Stands ((lebBytes n ++ body) ++ t) 0 (lebBytes n) (body ++ t) = record { within = omega arith; is = append-assoc (lebBytes n) body t } in
+    (number-plain n k w, λ a e. rw (← gives-one (sym (stands-number n k w) ∙ e), written-body body k t) p)
 
 -- The other direction: an entry that is written as it was read is plain, so the bytes do differ where anything else was read.
 pub written-plain : (s : List ℕ) {n len size : ℕ} {rowid : ℤ} {bs : List Block} → Bytes s → framed s ≡ gives (n, len)
     → cellFrom s ≡ gives ((rowid, bs), size) → entryBytes (rowid, map (contentOf (bodyAt s n len)) bs) ≡ take size s → Plain s
-unfolding cellFrom entry andThen
+unfolding cellFrom entry andThen entryBytes Plain
 written-plain s {n} {len} {size} {rowid} {bs} b f e same =
     by (localBody (bodyAt s n len)) (body-fine (bodyAt s n len) (bytes-take len (drop n s) (bytes-drop n s b))) (rw f at e)
   where
@@ -574,4 +575,4 @@ written-plain s {n} {len} {size} {rowid} {bs} b f e same =
         let k : length cs < 2 ^ 64 = rw (length-map bs (contentOf (bodyAt s n len))) (v .count) in
         let o : length (bodyBytes (rowid, cs)) < 2 ^ 64 = omega (arith, v .size, part-most len (drop n s), framed-fits s f) in
         let z : entryBytes (rowid, cs) ++ drop size s ≡ s = rw same (take-append-drop size s) in
-        rw z at (entry-plain rowid cs (v .fits) (v .sound) k o (drop size s))
+        rw z at (behind-plain PlainBody (bodyBytes (rowid, cs)) o (body-plain rowid cs (v .fits) (v .sound) k) (drop size s))

@@ -9,13 +9,13 @@ use native.Mathlib.Omega.{arith}
 use lib.Dec.{ltb, leb, eqb}
 use lib.Ieee.{ofBits, binary64}
 use lib.IntN.{ℤ}
-use lib.ListN.{length, take, drop, getD, length-append, length-drop, length-map}
+use lib.ListN.{length, take, drop, getD, length-append, length-map}
 use lib.Seq.{length-take-le}
 use mir.Syntax.{w64}
 use mir.Val.{SFits}
-use borrow.Author.Tests.{ltb-false, leb-true, eqb-true, ne-eqb}
+use borrow.Author.Tests.{ltb-false, leb-true, eqb-true}
 use Rattle.paper.specs.Answer.{Answer, gives, refuses, andThen, pick}
-use Rattle.paper.proofs.Laws.{gives-one, gives-refuses, second}
+use Rattle.paper.proofs.Laws.{gives-one, gives-refuses}
 use Rattle.field.specs.Field.{le}
 use Rattle.field.proofs.Storing.{length-bytes}
 use Rattle.varint.specs.Leb.{lebBytes, lenU64, groups, readFrom, readU64}
@@ -32,9 +32,11 @@ use Rattle.cell.specs.Content.{Content, contentOf}
 use Rattle.cell.specs.Entry.{framed, bodyAt, entry}
 use Rattle.cell.specs.Local.{blocksAt, rowOf, localBody, cellFrom}
 use Rattle.cell.specs.Written.{blockBytes, blocksBytes, bitmap, bodyBytes}
+use Rattle.cell.proofs.Blocks.{read-inside, unknown}
 use Rattle.cell.proofs.Lengths.{bitmap-length}
 use Rattle.cell.proofs.Listed.{Sound, AllSound}
 use Rattle.cell.proofs.Reread.{Reread, row-reread}
+use Rattle.cell.proofs.Whole.{part-length, framing}
 use Rattle.cell.proofs.WrittenRead.{bytes-drop, le-below}
 
 -- ---- a number that was read is written in no more bytes
@@ -61,16 +63,6 @@ record Short (body : List ℕ) (at : ℕ) (b : Block) (next : ℕ) : Type 0 wher
 abbrev Fine : List ℕ → ℕ → Answer (Block × ℕ) → Type 0
 Fine body at (gives (b, next)) = Short body at b next
 Fine body at (refuses k) = Unit {0}
-
-pub unknown : (tag : ℕ) (body : List ℕ) (at : ℕ) → 4 < tag → blockOf tag body at ≡ refuses 9
-unfolding blockOf pick
-unknown tag body at l =
-    let a : tag ≡ 0 → ⊥ = λ e. omega arith in
-    let b : tag ≡ 1 → ⊥ = λ e. omega arith in
-    let c : tag ≡ 2 → ⊥ = λ e. omega arith in
-    let d : tag ≡ 3 → ⊥ = λ e. omega arith in
-    let f : tag ≡ 4 → ⊥ = λ e. omega arith in
-    rw (ne-eqb tag 0 a, ne-eqb tag 1 b, ne-eqb tag 2 c, ne-eqb tag 3 d, ne-eqb tag 4 f)
 
 module _ (body : List ℕ) (at : ℕ) (b : Bytes body) where
   number-fine : {v n : ℕ} → readU64 body (at + 1) ≡ gives (v, n) → (v < 2 ^ 64) × (lenU64 v ≤ n)
@@ -109,7 +101,7 @@ module _ (body : List ℕ) (at : ℕ) (b : Bytes body) where
       by true f (gives u) g =
           let (h, l) = number-fine e in
           let i : at + 1 + n + len ≤ length body = leb-true (at + 1 + n + len) (length body) f in
-          let k : length (take len (drop (at + 1 + n) body)) ≡ len = length-take-le len (drop (at + 1 + n) body) (rw (length-drop (at + 1 + n) body) (omega arith)) in
+          let k : length (take len (drop (at + 1 + n) body)) ≡ len = part-length len (at + 1 + n) body i in
           let m = length-append (lebBytes len) (take len (drop (at + 1 + n) body)) in
           record { sound = (g, rw k h); size = rw k (omega arith) }
 
@@ -125,7 +117,7 @@ module _ (body : List ℕ) (at : ℕ) (b : Bytes body) where
       by false f =
           let (h, l) = number-fine e in
           let i : dim ≤ (length body - (at + 1 + n)) / 4 = ltb-false ((length body - (at + 1 + n)) / 4) dim f in
-          let k : length (take (4 * dim) (drop (at + 1 + n) body)) ≡ 4 * dim = length-take-le (4 * dim) (drop (at + 1 + n) body) (rw (length-drop (at + 1 + n) body) (omega arith)) in
+          let k : length (take (4 * dim) (drop (at + 1 + n) body)) ≡ 4 * dim = part-length (4 * dim) (at + 1 + n) body (omega (arith, read-inside body (at + 1) e)) in
           let d : 4 * dim / 4 ≡ dim = omega arith in
           let m = length-append (lebBytes dim) (take (4 * dim) (drop (at + 1 + n) body)) in
           record { sound = rw (k, d) (refl, h); size = rw (k, d) (omega arith) }
@@ -271,16 +263,7 @@ part-most (suc n) [] = omega arith
 part-most (suc n) (x ∷ s) = let h : length (take n s) ≤ n = part-most n s in omega arith
 
 pub framed-fits : (s : List ℕ) {n len : ℕ} → framed s ≡ gives (n, len) → len < 2 ^ 64
-unfolding framed andThen pick
-framed-fits s {n} {len} e = by (readFrom s) refl e
-  where
-    tested : (t : Bool) (m k : ℕ) → readFrom s ≡ gives (m, k) → pick {A = Answer (ℕ × ℕ)} t (refuses 3) (gives (k, m)) ≡ gives (n, len) → len < 2 ^ 64
-    tested true m k f g = absurd (gives-refuses (sym g))
-    tested false m k f g = let d : m ≡ len = ap second (gives-one g) in rw (← d) (read-is s f .fits)
-
-    by : (a : Answer (ℕ × ℕ)) → readFrom s ≡ a → andThen {B = ℕ × ℕ} a (λ (m, k). pick (ltb (length s - k) m) (refuses 3) (gives (k, m))) ≡ gives (n, len) → len < 2 ^ 64
-    by (refuses k) f g = absurd (gives-refuses (sym g))
-    by (gives (m, k)) f g = tested (ltb (length s - k) m) m k f g
+framed-fits s e = read-is s (framing s e .read) .fits
 
 -- An entry that was read has a body, which says a row. That row, written again with any bytes behind it, reads as the same row, and
 -- its body is no longer. (Where its bytes differ is said in `PlainWritten`.)

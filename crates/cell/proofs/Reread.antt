@@ -27,8 +27,8 @@ use Rattle.varint.proofs.Zigzag.{back, unsigned-fits}
 use Rattle.utf8.proofs.Laws.{at-inside}
 use Rattle.cell.specs.Block.{Block, null, integer, real, bool, text, vector, block, blockOf, isNull, bitmapBytes, columns}
 use Rattle.cell.specs.Content.{Content, none, whole, float, truth, letters, floats, contentOf}
-use Rattle.cell.specs.Entry.{framed, entry}
 use Rattle.cell.specs.Local.{blocksAt, rowOf, localBody, cellFrom}
+use Rattle.cell.proofs.Whole.{entry-back}
 use Rattle.cell.proofs.Listed.{Sound, AllSound}
 use Rattle.cell.proofs.Lengths.{bitmap-length}
 use Rattle.cell.specs.Written.{blockBytes, blocksBytes, nullBit, nullBits, bitmap, bodyBytes, entryBytes}
@@ -157,22 +157,19 @@ bit-small (truth b) = omega arith
 bit-small (letters t) = omega arith
 bit-small (floats v) = omega arith
 
+no-column : {c : Content} {ds : List Content} → [] ≡ c ∷ ds → ⊥
+no-column e = let z : _≡_ {A = ℕ} 0 1 = cc in omega arith
+
 -- bit j is that of column j
 bit-at : (k j : ℕ) (cs : List Content) (c : Content) (ds : List Content) → j < k → drop j cs ≡ c ∷ ds → nullBits (take k cs) / 2 ^ j % 2 ≡ nullBit c
 unfolding nullBits
 bit-at zero j cs c ds h e = absurd (omega arith)
-bit-at (suc k) zero [] c ds h e = absurd (never e)
-  where
-    never : [] ≡ c ∷ ds → ⊥
-    never f = let z : _≡_ {A = ℕ} 0 1 = cc in omega arith
+bit-at (suc k) zero [] c ds h e = absurd (no-column e)
 bit-at (suc k) zero (x ∷ cs) c ds h e =
     let d : x ≡ c = cc in
     let o : (nullBit x + 2 * nullBits (take k cs)) / 1 ≡ nullBit x + 2 * nullBits (take k cs) = div-one (nullBit x + 2 * nullBits (take k cs)) in
     rw (o, d) (omega (arith, bit-small c))
-bit-at (suc k) (suc j) [] c ds h e = absurd (never e)
-  where
-    never : [] ≡ c ∷ ds → ⊥
-    never f = let z : _≡_ {A = ℕ} 0 1 = cc in omega arith
+bit-at (suc k) (suc j) [] c ds h e = absurd (no-column e)
 bit-at (suc k) (suc j) (x ∷ cs) c ds h e =
     let n : ℕ = nullBit x + 2 * nullBits (take k cs) in
     let f : n / 2 ^ 1 / 2 ^ j ≡ n / 2 ^ (1 + j) = shr-shr n 1 j in
@@ -314,31 +311,19 @@ module _ (rowid : ℤ) (cs : List Content) (f : SFits w64 rowid) (s : AllSound c
   row-same = contents-back cs blocksPlace s blocks-stand
 
   module _ (b : length body < 2 ^ 64) (t : List ℕ) where
-    entry-back : cellFrom (entryBytes (rowid, cs) ++ t) ≡ gives ((rowid, laid blocksPlace cs), length (entryBytes (rowid, cs)))
-    unfolding cellFrom entry framed pick andThen entryBytes body
-    entry-back =
-        let k : ℕ = length body in
-        let a : (lebBytes k ++ body) ++ t ≡ lebBytes k ++ (body ++ t) = append-assoc (lebBytes k) body t in
-        let n : length (lebBytes k ++ (body ++ t)) ≡ length (lebBytes k) + (k + length t) = length-append (lebBytes k) (body ++ t) ∙ ap (λ (m : ℕ). length (lebBytes k) + m) (length-append body t) in
-        let h : k ≤ length (lebBytes k ++ (body ++ t)) - length (lebBytes k) = omega arith in
-        rw (
-          a,
-          number-read k b (body ++ t),
-          le-ltb (length (lebBytes k ++ (body ++ t)) - length (lebBytes k)) k h,
-          drop-append-seam (lebBytes k) (body ++ t),
-          take-append-seam body t,
-          row-back,
-          length-append (lebBytes k) body,
-        )
+    cell-back : cellFrom (entryBytes (rowid, cs) ++ t) ≡ gives ((rowid, laid blocksPlace cs), length (entryBytes (rowid, cs)))
+    unfolding cellFrom entryBytes body
+    cell-back = entry-back localBody body b row-back t
 
 -- a row that was written, with any bytes behind it: it reads back whole, and each block holds its content
 pub record Reread (rowid : ℤ) (cs : List Content) (t : List ℕ) : Type 0 where
   pub blocks : List Block
   pub read : cellFrom (entryBytes (rowid, cs) ++ t) ≡ gives ((rowid, blocks), length (entryBytes (rowid, cs)))
   pub same : map (contentOf (bodyBytes (rowid, cs))) blocks ≡ cs
+  pub small : length (bodyBytes (rowid, cs)) < 2 ^ 64
 
 pub row-reread : (rowid : ℤ) (cs : List Content) → SFits w64 rowid → AllSound cs → length cs < 2 ^ 64 → length (bodyBytes (rowid, cs)) < 2 ^ 64
     → (t : List ℕ) → Reread rowid cs t
 unfolding body
 row-reread rowid cs f s l b t =
-    record { blocks = laid (blocksPlace rowid cs f s l) cs; read = entry-back rowid cs f s l b t; same = row-same rowid cs f s l }
+    record { blocks = laid (blocksPlace rowid cs f s l) cs; read = cell-back rowid cs f s l b t; same = row-same rowid cs f s l; small = b }

@@ -2,16 +2,15 @@
 -- Assumes nothing.
 use mathlib.Core.Path.{_≡_, refl, sym, _∙_, ap}
 use mathlib.Core.Bool.{Bool, true, false, not}
-use mathlib.Core.List.{List, _∷_}
+use mathlib.Core.List.{List}
 use Prim.Native.Nat.{ℕ, zero, suc, _+_, _-_, _*_, _/_, _%_, _^_, _≤_, _<_}
-use native.Mathlib.Nat.{zero-add, add-zero, le-of-eq}
+use native.Mathlib.Nat.{zero-add, add-zero}
 use native.Mathlib.Omega.{arith}
 use lib.Dec.{T, ltb, eqb}
 use lib.Ieee.{Float, nan, inf, fin, ofBits, binary64, isNan, nanBits, div}
 use lib.Ieee.Bits.{nanBits-is, nanBits-above}
 use lib.IntN.{ℤ}
 use lib.ListN.{length, take, drop, getD, length-take, length-drop}
-use lib.Seq.{take-all}
 use mir.Syntax.{w64}
 use mir.Val.{Fits}
 use borrow.Author.Needs.{needs}
@@ -19,7 +18,7 @@ use borrow.Author.Tests.{lt-ltb, le-ltb, ltb-true, ltb-false, ne-eqb, eqb-true, 
 use Rattle.paper.specs.Answer.{Answer, gives, refuses, andThen, pick}
 use Rattle.paper.specs.Coded.{Coded}
 use Rattle.paper.proofs.Coding.{is-place, is-refusal}
-use Rattle.paper.proofs.Laws.{gives-one, gives-refuses, first, second}
+use Rattle.paper.proofs.Laws.{gives-one, gives-refuses, first}
 use Rattle.field.specs.Field.{le}
 use Rattle.field.proofs.Laws.{le-drop}
 use Rattle.varint.specs.Leb.{readU64}
@@ -37,7 +36,9 @@ use Rattle.cell.specs.PaperValue.{paperValue, paperAsked}
 use Rattle.cell.specs.declared.value.Value.{Value}
 use Rattle.cell.specs.declared.value.Value.the-variants as Val
 use Rattle.cell.specs.declared.value.Asked.the-variants as Ask
-use Rattle.cell.proofs.Columns.{columns-step}
+use Rattle.cell.proofs.Placing.{rest-all}
+use Rattle.cell.proofs.Columns.{reading, first-of, columns-step}
+use Rattle.cell.proofs.Heads.{columns-length, frame-number, frame-starts, frame-ends, local-number}
 
 -- ---- the float of a pattern
 
@@ -80,10 +81,6 @@ accepted {A} {a} body at {v} {n} k f g = by (eqb n 0) refl (ltb 10 n) refl
         let d : (n ≡ 0 → ⊥) = eqb-false n 0 z in
         let b : n ≤ 10 = ltb-false 10 n m in
         (rw (← at-value body at f d b) at g, at-inside body at f d b)
-
--- the bytes from a place on, as a part of the slice
-rest : (s : List ℕ) (k : ℕ) → take (length s - k) (drop k s) ≡ drop k s
-rest s k = take-all (length s - k) (drop k s) (le-of-eq (length-drop k s))
 
 -- the block that was read
 block-is : (body : List ℕ) (at : ℕ) {b : Block} {end : ℕ} → gives (b, end) ≡ block body at → b ≡ blockAt body at
@@ -200,13 +197,13 @@ module _ (body : List ℕ) (at shift : ℕ) (b : HasBlock body at) where
     real-start = let h = block-here body at b in omega arith
 
     pub real-inside : 8 ≤ length (take (length body - (at + 1)) (drop (at + 1) body))
-    real-inside = rw (rest body (at + 1), length-drop (at + 1) body) (real-room body at b e)
+    real-inside = rw (rest-all body (at + 1), length-drop (at + 1) body) (real-room body at b e)
 
     pub real-value : {r : Value} {bits : ℕ} → bits ≡ le 8 0 (take (length body - (at + 1)) (drop (at + 1) body))
         → r ≡ Val.Real (ofBits binary64 bits) bits → paperValue r ≡ moved shift (blockAt body at)
     unfolding paperValue moved
     real-value {r} {bits} d q =
-        let p : bits ≡ le 8 (at + 1) body = d ∙ ap (λ (s : List ℕ). le 8 0 s) (rest body (at + 1)) ∙ at-place in
+        let p : bits ≡ le 8 (at + 1) body = d ∙ ap (λ (s : List ℕ). le 8 0 s) (rest-all body (at + 1)) ∙ at-place in
         paper-is {x = real (ofBits binary64 bits) bits} (rw q) (rw p (real-is body at b e))
       where
         at-place : le 8 0 (drop (at + 1) body) ≡ le 8 (at + 1) body
@@ -244,48 +241,6 @@ module _ (body : List ℕ) (at shift : ℕ) (b : HasBlock body at) where
     vector-value = let (d, i) = vector-found body at b n0 n1 n2 n3 f in paper-is {x = vector (at + 1 + n) v} refl d
 
 -- ---- the block of a column
-
--- what is read at a place for a column
-abbrev reading : ℕ → ℕ → List ℕ → ℕ → Answer (Block × ℕ)
-reading c map body at = pick (isNull body map c) (gives (null, at)) (block body at)
-
--- the first of some columns, and the others
-record First (n c map : ℕ) (body : List ℕ) (at : ℕ) (bs : List Block) (end : ℕ) : Type 0 where
-  pub head : Block
-  pub next : ℕ
-  pub tail : List Block
-  pub read : gives (head, next) ≡ reading c map body at
-  pub more : gives (tail, end) ≡ columns n (c + 1) map body next
-  pub parts : head ∷ tail ≡ bs
-
-first-of : (n c map : ℕ) (body : List ℕ) (at : ℕ) {bs : List Block} {end : ℕ} → gives (bs, end) ≡ columns (suc n) c map body at
-    → First n c map body at bs end
-unfolding columns andThen
-first-of n c map body at {bs} {end} g = by (reading c map body at) refl (sym g)
-  where
-    by2 : (p : Block × ℕ) → reading c map body at ≡ gives p → (a : Answer (List Block × ℕ)) → columns n (c + 1) map body (p .1) ≡ a
-        → andThen {B = List Block × ℕ} a (λ (cs, x). gives (p .0 ∷ cs, x)) ≡ gives (bs, end) → First n c map body at bs end
-    by2 p r (gives q) h g =
-        let d : p .0 ∷ q .0 ≡ bs = ap first (gives-one g) in
-        let e : q .1 ≡ end = ap second (gives-one g) in
-        record { head = p .0; next = p .1; tail = q .0; read = sym r; more = rw (← e) (sym h); parts = d }
-    by2 p r (refuses k) h g = absurd (gives-refuses (sym g))
-
-    by : (a : Answer (Block × ℕ)) → reading c map body at ≡ a
-        → andThen {B = List Block × ℕ} a (λ (b, next). andThen (columns n (c + 1) map body next) (λ (cs, x). gives (b ∷ cs, x)))
-        ≡ gives (bs, end)
-        → First n c map body at bs end
-    by (gives p) r g = by2 p r (columns n (c + 1) map body (p .1)) refl g
-    by (refuses k) r g = absurd (gives-refuses (sym g))
-
--- as many blocks as columns
-pub counted : (n c map : ℕ) (body : List ℕ) (at : ℕ) {bs : List Block} {end : ℕ} → gives (bs, end) ≡ columns n c map body at
-    → length bs ≡ n
-unfolding columns
-counted zero c map body at g = ap (λ (p : List Block × ℕ). length (p .0)) (gives-one g)
-counted (suc n) c map body at g =
-    let f = first-of n c map body at g in
-    rw (← f .parts) (ap suc (counted n (c + 1) map body (f .next) (f .more)))
 
 -- where column i from column c on stands, and that b stands there
 pub record Located (i c map : ℕ) (body : List ℕ) (at : ℕ) (b : Block) : Type 0 where
@@ -353,9 +308,6 @@ module _ {body : List ℕ} {count map column : ℕ} (k : HasColumn body count ma
 
 -- ---- the body, and the entry around it
 module _ (body : List ℕ) {rowid count map end : ℕ} (k : Locally body rowid count map end) (shift column : ℕ) where
-  pub body-number : 2 ^ 63 ≤ end → 2 ^ 64 - 256 ≤ end
-  body-number l = k .top l
-
   pub body-refused : {r : ℕ} → 2 ^ 63 ≤ end → r ≡ 2 ^ 64 - 1 - end → paperAsked (Ask.Refused r) ≡ bodyValue body shift column
   unfolding paperAsked bodyValue andThen
   body-refused l d = rw (← k .refused l, d)
@@ -365,7 +317,7 @@ module _ (body : List ℕ) {rowid count map end : ℕ} (k : Locally body rowid c
     unfolding bodyValue andThen
     body-decides =
         let g = k .given l in
-        let e : length (g .blocks) ≡ count = counted count 0 map body (map + bitmapBytes count) (g .walk) in
+        let e : length (g .blocks) ≡ count = columns-length count 0 map body (map + bitmapBytes count) (g .walk) in
         rw (← g .read, e)
 
     pub body-past : count ≤ column → paperAsked (Ask.Refused 12) ≡ bodyValue body shift column
@@ -382,20 +334,11 @@ module _ (body : List ℕ) {rowid count map end : ℕ} (k : Locally body rowid c
       body-value v p = rw (body-decides, lt-ltb column count h, column-is count map body column (k .given l .walk), p)
 
 module _ (s : List ℕ) {at end : ℕ} (f : Frame s at end) (pos column : ℕ) where
-  pub frame-number : 2 ^ 63 ≤ end → 2 ^ 64 - 256 ≤ end
-  frame-number l = f .top l
-
   pub frame-refused : {r : ℕ} → 2 ^ 63 ≤ end → r ≡ 2 ^ 64 - 1 - end → paperAsked (Ask.Refused r) ≡ valueFrom s pos column
   unfolding paperAsked valueFrom andThen
   frame-refused l d = rw (← f .refused l, d)
 
   module _ (l : end < 2 ^ 63) where
-    pub frame-order : at ≤ end
-    frame-order = let (a, b) = f .inside l in a
-
-    pub frame-inside : end ≤ length s
-    frame-inside = let (a, b) = f .inside l in b
-
     module _ (h : pos + length s < 2 ^ 63) where
       pub body-place : Fits w64 (pos + at)
       body-place = let (a, b) = f .inside l in record { fits = omega arith }
@@ -416,11 +359,11 @@ module _ (buf : List ℕ) (pos column : ℕ) where
   entry-missing l = rw (← at-short buf pos (found-past buf pos l) refl)
 
   pub entry-room : pos < length buf → length buf * 1 < 2 ^ 63 → pos + length (take (length buf - pos) (drop pos buf)) < 2 ^ 63
-  entry-room h b = rw (rest buf pos, length-drop pos buf) (omega arith)
+  entry-room h b = rw (rest-all buf pos, length-drop pos buf) (omega arith)
 
   pub entry-value : {r : Answer Block} → r ≡ valueFrom (take (length buf - pos) (drop pos buf)) pos column → r ≡ valueAt buf pos column
   unfolding valueAt
-  entry-value p = rw (rest buf pos) at p
+  entry-value p = rw (rest-all buf pos) at p
 
 pub ruleset values = (
   needs,
@@ -443,15 +386,15 @@ pub ruleset values = (
   null-value,
   block-there,
   block-value,
-  body-number,
+  local-number,
   body-refused,
   body-past,
   column-of,
   body-value,
   frame-number,
   frame-refused,
-  frame-order,
-  frame-inside,
+  frame-starts,
+  frame-ends,
   body-place,
   body-room,
   frame-value,

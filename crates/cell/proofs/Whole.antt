@@ -1,26 +1,32 @@
--- A whole entry reads the same with anything behind it, lies inside its list, and its rowid is the one that is peeked at.
+-- A whole entry: it reads as it was written, and the same with anything behind it; it lies inside its list; its rowid is the one
+-- that is peeked at.
 -- Assumes nothing.
 use mathlib.Core.Path.{_≡_, refl, sym, _∙_, ap}
-use mathlib.Core.Bool.{Bool, true, false}
 use mathlib.Core.List.{List, _++_, append-assoc}
-use Prim.Native.Nat.{ℕ, _+_, _-_, _≤_, _<_}
+use Prim.Native.Nat.{ℕ, _+_, _-_, _^_, _≤_, _<_}
 use native.Mathlib.Nat.{add-zero}
 use native.Mathlib.Omega.{arith}
 use lib.Dec.{ltb, eqb}
 use lib.IntN.{ℤ}
 use lib.ListN.{length, take, drop, getD, length-append, length-drop, take-append-drop}
-use lib.Seq.{take-add, drop-append-le, length-take-le, getD-take, getD-drop, drop-drop, take-at, drop-at}
+use lib.Seq.{take-add, drop-append-le, length-take-le, getD-take, getD-drop, drop-drop, take-at, drop-at, take-append-seam, drop-append-seam}
 use borrow.Author.Tests.{lt-ltb, le-ltb, ltb-false, eqb-true, eqb-false}
 use Rattle.paper.specs.Answer.{Answer, gives, refuses, andThen, pick}
 use Rattle.paper.proofs.Laws.{gives-one, gives-refuses, first, second}
-use Rattle.varint.specs.Leb.{readFrom, readU64}
+use Rattle.varint.specs.Leb.{readFrom, readU64, lebBytes, lenU64}
 use Rattle.varint.specs.Number.{readI64}
 use Rattle.varint.specs.Zigzag.{unzigzag}
 use Rattle.varint.proofs.Laws.{read-is, read-append}
-use Rattle.cell.specs.Entry.{framed, bodyAt, entry, peekKind, peekRowid, rowidAt}
+use Rattle.varint.proofs.Standard.{written-read}
+use Rattle.cell.specs.Entry.{framed, bodyAt, entry, withLength, peekKind, peekRowid, rowidAt}
 use Rattle.cell.specs.Block.{Block}
 use Rattle.cell.specs.Keyed.{keyedAt}
 use Rattle.cell.specs.Local.{blocksAt, rowOf, localBody}
+use Rattle.cell.proofs.Accepting.{not-refused, not-other, then-gave}
+
+-- a part that lies inside is as long as it says
+pub part-length : (n at : ℕ) (s : List ℕ) → at + n ≤ length s → length (take n (drop at s)) ≡ n
+part-length n at s l = length-take-le n (drop at s) (rw (length-drop at s) (omega arith))
 
 -- ---- the frame
 pub record Framing (s : List ℕ) (n len : ℕ) : Type 0 where
@@ -29,24 +35,15 @@ pub record Framing (s : List ℕ) (n len : ℕ) : Type 0 where
   pub inside : n + len ≤ length s
 
 pub framing : (s : List ℕ) {n len : ℕ} → framed s ≡ gives (n, len) → Framing s n len
-unfolding framed andThen pick
-framing s {n} {len} e = by (readFrom s) refl e
-  where
-    by2 : (p : ℕ × ℕ) → readFrom s ≡ gives p → (t : Bool) → ltb (length s - p .1) (p .0) ≡ t
-        → pick {A = Answer (ℕ × ℕ)} t (refuses 3) (gives (p .1, p .0)) ≡ gives (n, len) → Framing s n len
-    by2 p h true t f = absurd (gives-refuses (sym f))
-    by2 p h false t f =
-        let w = read-is s h in
-        let c : p .0 ≤ length s - p .1 = ltb-false (length s - p .1) (p .0) t in
-        let i : p .1 ≤ length s = w .inside in
-        let a : p .1 ≡ n = ap first (gives-one f) in
-        let b : p .0 ≡ len = ap second (gives-one f) in
-        record { read = rw (← a, ← b) h; some = rw a at (w .some); inside = rw (← a, ← b) (omega arith) }
-
-    by : (a : Answer (ℕ × ℕ)) → readFrom s ≡ a
-        → andThen {B = ℕ × ℕ} a (λ (len, n). pick (ltb (length s - n) len) (refuses 3) (gives (n, len))) ≡ gives (n, len) → Framing s n len
-    by (gives p) h f = by2 p h (ltb (length s - p .1) (p .0)) refl f
-    by (refuses k) h f = absurd (gives-refuses (sym f))
+unfolding framed
+framing s {n} {len} e =
+    let (v, v-is, v-then) = then-gave (readFrom s) _ e in
+    let w = read-is s (v-is) in
+    let (t, g) = not-refused (ltb (length s - v .1) (v .0)) 3 _ (v-then) in
+    let c : v .0 ≤ length s - v .1 = ltb-false (length s - v .1) (v .0) t in
+    let a : v .1 ≡ n = ap first (gives-one g) in
+    let b : v .0 ≡ len = ap second (gives-one g) in
+    record { read = v-is ∙ ap (λ (p : ℕ × ℕ). gives (p .1, p .0)) (gives-one g); some = omega (arith, w .some); inside = omega (arith, w .inside) }
 
 module _ (s : List ℕ) {n len : ℕ} (w : Framing s n len) (t : List ℕ) where
   whole-length : length (take (n + len) s) ≡ n + len
@@ -71,8 +68,25 @@ module _ (s : List ℕ) {n len : ℕ} (w : Framing s n len) (t : List ℕ) where
       let a : take (n + len) s ++ t ≡ take n s ++ (take len (drop n s) ++ t)
       = rw (take-add n len s, append-assoc (take n s) (take len (drop n s)) t) in
       let k : length (take n s) ≡ n = length-take-le n s (omega (arith, w .inside)) in
-      let m : length (take len (drop n s)) ≡ len = length-take-le len (drop n s) (rw (length-drop n s) (omega (arith, w .inside))) in
+      let m : length (take len (drop n s)) ≡ len = part-length len n s (w .inside) in
       rw (a, drop-at (take n s) (take len (drop n s) ++ t) n k, take-at (take len (drop n s)) t len m)
+
+-- a body that was written behind its length
+module _ (body : List ℕ) (l : length body < 2 ^ 64) (t : List ℕ) where
+  behind-length : withLength body ++ t ≡ lebBytes (length body) ++ (body ++ t)
+  unfolding withLength
+  behind-length = append-assoc (lebBytes (length body)) body t
+
+  pub written-framed : framed (withLength body ++ t) ≡ gives (lenU64 (length body), length body)
+  unfolding framed andThen pick
+  written-framed =
+      let s : List ℕ = lebBytes (length body) ++ (body ++ t) in
+      let r : length body ≤ length s - lenU64 (length body)
+      = rw (length-append (lebBytes (length body)) (body ++ t), length-append body t) (omega arith) in
+      rw (behind-length, written-read (length body) l (body ++ t), le-ltb (length s - lenU64 (length body)) (length body) r)
+
+  pub written-body : bodyAt (withLength body ++ t) (lenU64 (length body)) (length body) ≡ body
+  written-body = rw (behind-length, drop-append-seam (lebBytes (length body)) (body ++ t), take-append-seam body t)
 
 -- ---- an entry of any kind
 pub record Whole {A : Type 0} (read : List ℕ → Answer A) (s : List ℕ) (a : A) (size : ℕ) : Type 0 where
@@ -84,25 +98,17 @@ pub record Whole {A : Type 0} (read : List ℕ → Answer A) (s : List ℕ) (a :
 
 module _ {A : Type 0} (read : List ℕ → Answer A) where
   pub whole-is : (s : List ℕ) {a : A} {size : ℕ} → entry read s ≡ gives (a, size) → Whole read s a size
-  unfolding entry andThen
-  whole-is s {a} {size} e = by (framed s) refl e
-    where
-      by2 : (p : ℕ × ℕ) → framed s ≡ gives p → (b : Answer A) → read (bodyAt s (p .0) (p .1)) ≡ b
-          → andThen {B = A × ℕ} b (λ x. gives (x, p .0 + p .1)) ≡ gives (a, size) → Whole read s a size
-      by2 p h (gives x) g f =
-          record {
-            place = p .0;
-            len = p .1;
-            frame = framing s h;
-            sum = ap second (gives-one f);
-            body = g ∙ ap gives (ap first (gives-one f));
-          }
-      by2 p h (refuses k) g f = absurd (gives-refuses (sym f))
-
-      by : (q : Answer (ℕ × ℕ)) → framed s ≡ q
-          → andThen {B = A × ℕ} q (λ (n, len). andThen (read (bodyAt s n len)) (λ x. gives (x, n + len))) ≡ gives (a, size) → Whole read s a size
-      by (gives p) h f = by2 p h (read (bodyAt s (p .0) (p .1))) refl f
-      by (refuses k) h f = absurd (gives-refuses (sym f))
+  unfolding entry
+  whole-is s e =
+      let (v, v-is, v-then) = then-gave (framed s) _ e in
+      let (w, w-is, w-then) = then-gave (read (bodyAt s (v .0) (v .1))) _ (v-then) in
+      record {
+        place = v .0;
+        len = v .1;
+        frame = framing s (v-is);
+        sum = ap second (gives-one (w-then));
+        body = w-is ∙ ap gives (ap first (gives-one (w-then)));
+      }
 
   module _ (s : List ℕ) {a : A} {size : ℕ} (w : Whole read s a size) where
     pub whole-some : 1 ≤ size
@@ -116,6 +122,12 @@ module _ {A : Type 0} (read : List ℕ → Answer A) where
     whole-anywhere t =
         rw (← w .sum, whole-framed s (w .frame) t, whole-body s (w .frame) t, w .body)
 
+  -- a body that reads, written behind its length
+  pub entry-back : (body : List ℕ) {a : A} → length body < 2 ^ 64 → read body ≡ gives a → (t : List ℕ)
+      → entry read (withLength body ++ t) ≡ gives (a, length (withLength body))
+  unfolding entry andThen withLength
+  entry-back body l e t = rw (written-framed body l t, written-body body l t, e, length-append (lebBytes (length body)) body)
+
 -- ---- a body that has a kind and a rowid
 pub record HasKey (kind : ℕ) (body : List ℕ) (rowid : ℤ) : Type 0 where
   pub some : 1 ≤ length body
@@ -123,59 +135,40 @@ pub record HasKey (kind : ℕ) (body : List ℕ) (rowid : ℤ) : Type 0 where
   pub taken : ℕ
   pub read : readI64 body 1 ≡ gives (rowid, taken)
 
-row-keyed : (body : List ℕ) {rowid : ℤ} {bs : List Block} → rowOf body ≡ gives (rowid, bs) → (n : ℕ) × (readI64 body 1 ≡ gives (rowid, n))
-unfolding rowOf andThen
-row-keyed body {rowid} {bs} e = by (readI64 body 1) refl e
-  where
-    by3 : (z : ℤ) (a : Answer (List Block)) → andThen {B = ℤ × List Block} a (λ xs. gives (z, xs)) ≡ gives (rowid, bs) → z ≡ rowid
-    by3 z (gives xs) f = ap first (gives-one f)
-    by3 z (refuses k) f = absurd (gives-refuses (sym f))
-
-    by2 : (p : ℤ × ℕ) (a : Answer (ℕ × ℕ)) → andThen {B = ℤ × List Block} a (λ (count, m). andThen (blocksAt count body (1 + p .1 + m)) (λ xs. gives (p .0, xs))) ≡ gives (rowid, bs) → p .0 ≡ rowid
-    by2 p (gives q) f = by3 (p .0) (blocksAt (q .0) body (1 + p .1 + q .1)) f
-    by2 p (refuses k) f = absurd (gives-refuses (sym f))
-
-    by : (a : Answer (ℤ × ℕ)) → readI64 body 1 ≡ a
-        → andThen {B = ℤ × List Block} a (λ (z, n). andThen (readU64 body (1 + n)) (λ (count, m). andThen (blocksAt count body (1 + n + m)) (λ xs. gives (z, xs)))) ≡ gives (rowid, bs)
-        → (n : ℕ) × (readI64 body 1 ≡ gives (rowid, n))
-    by (gives p) h f = (p .1, h ∙ ap (λ (z : ℤ). gives (z, p .1)) (by2 p (readU64 body (1 + p .1)) f))
-    by (refuses k) h f = absurd (gives-refuses (sym f))
-
 pub local-key : (body : List ℕ) {rowid : ℤ} {bs : List Block} → localBody body ≡ gives (rowid, bs) → HasKey 1 body rowid
-unfolding localBody pick
-local-key body {rowid} {bs} e = by (eqb (length body) 0) refl (eqb (getD body 0 0) 1) refl e
-  where
-    by : (t : Bool) → eqb (length body) 0 ≡ t → (u : Bool) → eqb (getD body 0 0) 1 ≡ u
-        → pick t (refuses 4) (pick u (rowOf body) (refuses 5)) ≡ gives (rowid, bs) → HasKey 1 body rowid
-    by true t u v f = absurd (gives-refuses (sym f))
-    by false t true u f =
-        let (n, r) = row-keyed body f in
-        let z = eqb-false (length body) 0 t in
-        record { some = omega (arith, z); first-byte = eqb-true (getD body 0 0) 1 u; taken = n; read = r }
-    by false t false u f = absurd (gives-refuses (sym f))
+unfolding localBody rowOf
+local-key body e =
+    let (t, g) = not-refused (eqb (length body) 0) 4 _ e in
+    let (u, h) = not-other (eqb (getD body 0 0) 1) 5 _ g in
+    let (v, v-is, v-then) = then-gave (readI64 body 1) _ h in
+    let (w, w-is, w-then) = then-gave (readU64 body (1 + v .1)) _ (v-then) in
+    let (x, x-is, x-then) = then-gave (blocksAt (w .0) body (1 + v .1 + w .1)) _ (w-then) in
+    let z = eqb-false (length body) 0 t in
+    record {
+      some = omega (arith, z);
+      first-byte = eqb-true (getD body 0 0) 1 u;
+      taken = v .1;
+      read = v-is ∙ ap (λ (r : ℤ). gives (r, v .1)) (ap first (gives-one (x-then)));
+    }
 
 pub keyed-key : (kind : ℕ) (body : List ℕ) {rowid : ℤ} {at : ℕ} → keyedAt kind body ≡ gives (rowid, at) → HasKey kind body rowid
-unfolding keyedAt pick andThen
-keyed-key kind body {rowid} {at} e = by (eqb (length body) 0) refl (eqb (getD body 0 0) kind) refl (readI64 body 1) refl e
-  where
-    by : (t : Bool) → eqb (length body) 0 ≡ t → (u : Bool) → eqb (getD body 0 0) kind ≡ u → (a : Answer (ℤ × ℕ)) → readI64 body 1 ≡ a
-        → pick t (refuses 5) (pick u (andThen {B = ℤ × ℕ} a (λ (z, n). gives (z, 1 + n))) (refuses 5)) ≡ gives (rowid, at) → HasKey kind body rowid
-    by true t u v a h f = absurd (gives-refuses (sym f))
-    by false t false u a h f = absurd (gives-refuses (sym f))
-    by false t true u (gives p) h f =
-        let z = eqb-false (length body) 0 t in
-        record {
-          some = omega (arith, z);
-          first-byte = eqb-true (getD body 0 0) kind u;
-          taken = p .1;
-          read = h ∙ ap (λ (x : ℤ). gives (x, p .1)) (ap first (gives-one f));
-        }
-    by false t true u (refuses k) h f = absurd (gives-refuses (sym f))
+unfolding keyedAt
+keyed-key kind body e =
+    let (t, g) = not-refused (eqb (length body) 0) 5 _ e in
+    let (u, h) = not-other (eqb (getD body 0 0) kind) 5 _ g in
+    let (v, v-is, v-then) = then-gave (readI64 body 1) _ h in
+    let z = eqb-false (length body) 0 t in
+    record {
+      some = omega (arith, z);
+      first-byte = eqb-true (getD body 0 0) kind u;
+      taken = v .1;
+      read = v-is ∙ ap (λ (r : ℤ). gives (r, v .1)) (ap first (gives-one (v-then)));
+    }
 
 -- ---- what is peeked at is what is read
 module _ (s : List ℕ) {n len kind : ℕ} {rowid : ℤ} (w : Framing s n len) (k : HasKey kind (bodyAt s n len) rowid) where
   body-length : length (bodyAt s n len) ≡ len
-  body-length = length-take-le len (drop n s) (rw (length-drop n s) (omega (arith, w .inside)))
+  body-length = part-length len n s (w .inside)
 
   kind-inside : n < length s
   kind-inside = omega (arith, w .inside, k .some, body-length)

@@ -8,8 +8,7 @@ use lib.IntN.{ℤ}
 use lib.ListN.{length, take, drop, length-append}
 use mir.Syntax.{w64}
 use mir.Val.{Fits, SFits, ofZ, toZ}
-use mir.ValLaws.{toZ-ofZ}
-use borrow.Author.Tests.{lt-ltb, le-ltb, eq-eqb, ne-eqb}
+use borrow.Author.Tests.{eq-eqb, ne-eqb}
 use borrow.Rule.Slice.PartMut.{putMid}
 use Rattle.paper.specs.Answer.{Answer, gives, refuses, andThen, pick, over, put, sizeOf}
 use Rattle.paper.proofs.Laws.{paper, gives-one, gives-refuses, refuses-one}
@@ -20,9 +19,11 @@ use Rattle.varint.specs.declared.Wrote.the-variants as W
 use Rattle.cell.specs.Block.{bitmapBytes}
 use Rattle.cell.specs.Content.{Content}
 use Rattle.cell.specs.ValueList.{items, valueList}
+use Rattle.cell.specs.Entry.{withLength, fitted}
 use Rattle.cell.specs.Written.{blocksBytes, bodyBytes, entryBytes, encoded, writeCell}
 use Rattle.cell.specs.Listing.{wordList, heldAll, kindMap, judged, blocksLen, headOf, columnsOf, bodyOf, bodySize, Good, Measures}
-use Rattle.cell.proofs.Placing.{then-over}
+use Rattle.cell.proofs.Placing.{then-over, short-size, short-output as output-kept, whole-size, whole-output}
+use Rattle.cell.proofs.Numbers.{id-is}
 use Rattle.cell.proofs.Nulls.{nulls, map-length}
 use Rattle.cell.proofs.Putting.{putting}
 use Rattle.cell.proofs.Measuring.{measuring}
@@ -156,13 +157,7 @@ module _ {id : ℕ} {kinds words rest : List ℕ} {r s : ℕ} (m : Measures id k
   pub entry-fits : {l : ℕ} → l ≤ 10 → Fits w64 (l + s)
   entry-fits h = let g = m .good z in record { fits = omega arith }
 
-pub entry-room : (s n : ℕ) {l : ℕ} → l ≡ length (lebBytes s) → l + s ≤ n → length (lebBytes s) + s ≤ n
-entry-room s n e l = omega arith
-
 module _ (rowid : ℤ) (f : SFits w64 rowid) {id : ℕ} (i : id ≡ zigzag (toZ w64 (ofZ w64 rowid))) (kinds words rest : List ℕ) where
-  id-is : id ≡ zigzag rowid
-  id-is = i ∙ ap zigzag (toZ-ofZ w64 rowid f)
-
   module _ {r s : ℕ} (m : Measures id kinds words rest r s) where
     module _ (z : r ≡ 0 → ⊥) where
       refused-is : encoded rowid kinds words rest ≡ refuses r
@@ -189,40 +184,40 @@ module _ (rowid : ℤ) (f : SFits w64 rowid) {id : ℕ} (i : id ≡ zigzag (toZ 
           rw (
             g .count,
             g .nulls,
-            id-is,
+            id-is rowid f i,
             append-assoc (lebBytes (zigzag rowid)) (lebBytes (length kinds))
                 (kindMap (bitmapBytes (length kinds)) kinds ++ blocksBytes (heldAll kinds (wordList words) rest)),
           )
 
       good-is : encoded rowid kinds words rest ≡ gives (lebBytes s ++ bodyOf id kinds words rest)
-      unfolding encoded andThen entryBytes
+      unfolding encoded andThen entryBytes withLength
       good-is = rw (m .good z .listed, body-is, body-length kinds words rest (m .good z))
 
-      entry-length : length (lebBytes s ++ bodyOf id kinds words rest) ≡ length (lebBytes s) + s
-      entry-length = rw (length-append (lebBytes s) (bodyOf id kinds words rest), body-length kinds words rest (m .good z))
+      write-is : (room : ℕ) → writeCell rowid kinds words rest room ≡ fitted room (lebBytes s ++ bodyOf id kinds words rest)
+      unfolding writeCell andThen
+      write-is room = rw good-is
 
-      pub good-size : {l : ℕ} → l ≡ length (lebBytes s) → paperWrote (W.Bytes (l + s)) ≡ sizeOf (encoded rowid kinds words rest)
-      unfolding paperWrote sizeOf
-      good-size e = rw (good-is, entry-length, e)
+      module _ {l : ℕ} (e : l ≡ length (lebBytes s)) where
+        entry-length : length (lebBytes s ++ bodyOf id kinds words rest) ≡ l + s
+        entry-length = rw (length-append (lebBytes s) (bodyOf id kinds words rest), body-length kinds words rest (m .good z), e)
 
-      module _ (room : ℕ) {l : ℕ} (e : l ≡ length (lebBytes s)) where
-        pub short-write : room < l + s → paperWrote (W.Refused 16) ≡ sizeOf (writeCell rowid kinds words rest room)
-        unfolding paperWrote sizeOf writeCell andThen pick
-        short-write h = rw (good-is, entry-length, lt-ltb room (length (lebBytes s) + s) (rw e at h))
+        pub good-size : paperWrote (W.Bytes (l + s)) ≡ sizeOf (encoded rowid kinds words rest)
+        unfolding paperWrote sizeOf
+        good-size = rw (good-is, entry-length)
 
-        pub good-write : l + s ≤ room → paperWrote (W.Bytes (l + s)) ≡ sizeOf (writeCell rowid kinds words rest room)
-        unfolding paperWrote sizeOf writeCell andThen pick
-        good-write h = rw (good-is, entry-length, le-ltb room (length (lebBytes s) + s) (rw e at h), entry-length, e)
+        module _ (out : List ℕ) where
+          pub short-write : length out < l + s → paperWrote (W.Refused 16) ≡ sizeOf (writeCell rowid kinds words rest (length out))
+          short-write h = rw (write-is (length out)) (short-size out (lebBytes s ++ bodyOf id kinds words rest) entry-length h)
 
-      module _ (out : List ℕ) {l : ℕ} (e : l ≡ length (lebBytes s)) where
-        pub short-output : length out < l + s → out ≡ put out (writeCell rowid kinds words rest (length out))
-        unfolding put writeCell andThen pick
-        short-output h = rw (good-is, entry-length, lt-ltb (length out) (length (lebBytes s) + s) (rw e at h))
+          pub good-write : l + s ≤ length out → paperWrote (W.Bytes (l + s)) ≡ sizeOf (writeCell rowid kinds words rest (length out))
+          good-write h = rw (write-is (length out)) (whole-size out (lebBytes s ++ bodyOf id kinds words rest) entry-length h)
 
-        pub good-output : {new : List ℕ} → l + s ≤ length out → new ≡ over out (lebBytes s ++ bodyOf id kinds words rest)
-            → new ≡ put out (writeCell rowid kinds words rest (length out))
-        unfolding put writeCell andThen pick
-        good-output h d = rw (good-is, entry-length, le-ltb (length out) (length (lebBytes s) + s) (rw e at h)) d
+          pub short-output : length out < l + s → out ≡ put out (writeCell rowid kinds words rest (length out))
+          short-output h = rw (write-is (length out)) (output-kept out (lebBytes s ++ bodyOf id kinds words rest) entry-length h)
+
+          pub good-output : {new : List ℕ} → l + s ≤ length out → new ≡ over out (lebBytes s ++ bodyOf id kinds words rest)
+              → new ≡ put out (writeCell rowid kinds words rest (length out))
+          good-output h d = d ∙ rw (write-is (length out)) (whole-output out (lebBytes s ++ bodyOf id kinds words rest) entry-length h)
 
 pub ruleset writing = (
   putting,
@@ -242,7 +237,6 @@ pub ruleset writing = (
   entry-output,
   entry-good,
   entry-fits,
-  entry-room,
   refused-size,
   refused-write,
   refused-output,

@@ -1,7 +1,6 @@
 -- The theorem of the round trip: what a value list was accepted for reads back as the row that the list says.
 -- Assumes nothing.
-use mathlib.Core.Path.{_≡_, refl, sym}
-use mathlib.Core.Bool.{Bool, true, false}
+use mathlib.Core.Path.{_≡_}
 use mathlib.Core.List.{List, [], _∷_}
 use Prim.Native.Nat.{ℕ, zero, suc, _+_, _*_, _/_, _%_, _^_, _≤_, _<_}
 use native.Mathlib.Omega.{arith}
@@ -12,14 +11,14 @@ use lib.Pow.{pow-add}
 use mir.Syntax.{w64}
 use mir.Val.{SFits}
 use borrow.Author.Tests.{ltb-false}
-use Rattle.paper.specs.Answer.{Answer, gives, refuses, pick}
-use Rattle.paper.proofs.Laws.{gives-refuses}
+use Rattle.paper.specs.Answer.{gives}
 use Rattle.field.specs.Field.{le}
 use Rattle.varint.specs.Standard.{Bytes}
 use Rattle.cell.specs.Content.{Content}
 use Rattle.cell.specs.ValueList.{items, wordsOf, valueList}
 use Rattle.cell.specs.Written.{blocksBytes, bodyBytes}
 use Rattle.cell.specs.Listing.{wordList, usedAll}
+use Rattle.cell.proofs.Accepting.{not-refused, not-other}
 use Rattle.cell.proofs.Lengths.{blocks-most, body-most}
 use Rattle.cell.proofs.Listed.{AllBelow, items-listed, marked-length}
 use Rattle.cell.proofs.Reread.{Reread, row-reread}
@@ -29,16 +28,6 @@ record Accepted (kinds words rest : List ℕ) (cs : List Content) : Type 0 where
   pub columns : length kinds ≤ 65536
   pub amount : length rest ≤ 16777216
   pub listed : items kinds (wordList words) rest ≡ gives cs
-
-not-refused : {A : Type 0} (t : Bool) (k : ℕ) (x : Answer A) {a : A} → pick t (refuses k) x ≡ gives a → (t ≡ false) × (x ≡ gives a)
-unfolding pick
-not-refused true k x e = absurd (gives-refuses (sym e))
-not-refused false k x e = (refl, e)
-
-not-other : {A : Type 0} (t : Bool) (k : ℕ) (x : Answer A) {a : A} → pick t x (refuses k) ≡ gives a → x ≡ gives a
-unfolding pick
-not-other true k x e = e
-not-other false k x e = absurd (gives-refuses (sym e))
 
 accepted : (kinds words rest : List ℕ) {cs : List Content} → valueList kinds words rest ≡ gives cs → Accepted kinds words rest cs
 unfolding valueList wordList
@@ -50,7 +39,7 @@ accepted kinds words rest e =
     record {
       columns = ltb-false 65536 (length kinds) b;
       amount = ltb-false 16777216 (length rest) d;
-      listed = not-other (eqb (length kinds) (length words / 8)) 15 _ ed;
+      listed = not-other (eqb (length kinds) (length words / 8)) 15 _ ed .1;
     }
 
 -- ---- eight bytes are a 64-bit word

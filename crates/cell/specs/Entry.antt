@@ -1,12 +1,12 @@
 -- Document 01, "Entries": an entry is its body's length, a varint, and its body; a body starts with a kind byte, then the rowid.
 -- What the kinds share. Everything is a function of the bytes from the entry's place on.
 use Prim.Native.Nat.{ℕ, _+_, _-_, _^_}
-use mathlib.Core.List.{List}
+use mathlib.Core.List.{List, _++_}
 use lib.Dec.{ltb}
 use lib.IntN.{ℤ}
 use lib.ListN.{length, take, drop, getD}
 use Rattle.paper.specs.Answer.{Answer, gives, refuses, andThen, pick}
-use Rattle.varint.specs.Leb.{readFrom}
+use Rattle.varint.specs.Leb.{readFrom, lebBytes}
 use Rattle.varint.specs.Number.{readI64}
 
 -- where the body starts, and its length: the varint (1, 2); a body that ends beyond the buffer (3)
@@ -20,6 +20,16 @@ bodyAt s n len = take len (drop n s)
 -- a whole entry: what its body says, and the bytes that the entry takes
 unfoldable pub entry : {A : Type 0} → (List ℕ → Answer A) → List ℕ → Answer (A × ℕ)
 entry read s = andThen (framed s) (λ (n, len). andThen (read (bodyAt s n len)) (λ a. gives (a, n + len)))
+
+-- ---- written
+
+-- the body behind its length
+unfoldable pub withLength : List ℕ → List ℕ
+withLength body = lebBytes (length body) ++ body
+
+-- into an output of room bytes; 16 where they do not fit
+unfoldable pub fitted : ℕ → List ℕ → Answer (List ℕ)
+fitted room out = pick (ltb room (length out)) (refuses 16) (gives out)
 
 -- ---- peeks, which look at no more than they name
 

@@ -24,16 +24,9 @@ unfoldable pub pageAt : List ℕ → ℕ → Answer ℕ
 pageAt body at =
     pick (ltb (length body - at) 4) (refuses 6) (pick (eqb (length body - at) 4) (gives (le 4 at body)) (refuses 10))
 
--- ---- written: the body behind its length
-unfoldable pub withLength : List ℕ → List ℕ
-withLength body = lebBytes (length body) ++ body
-
+-- ---- written
 unfoldable pub keyedBytes : ℕ → ℤ → List ℕ → List ℕ
 keyedBytes kind rowid rest = kind ∷ (lebBytes (zigzag rowid) ++ rest)
-
--- into an output of room bytes; 16 where they do not fit
-unfoldable pub fitted : ℕ → List ℕ → Answer (List ℕ)
-fitted room out = pick (ltb room (length out)) (refuses 16) (gives out)
 
 -- ---- what the code's steps say to each other
 

@@ -48,6 +48,10 @@ PlainBody body =
     × Given (readU64 body (1 + n)) (λ (count, m). SpareClear count body (1 + n + m)
     × PlainColumns count 0 (1 + n + m) body (1 + n + m + bitmapBytes count)))
 
--- the entry at the start of s: its length, and its body
+-- the entry at the start of s, of any kind: its length, and its body
+abbrev pub PlainEntry : (List ℕ → Type 0) → List ℕ → Type 0
+PlainEntry Plainly s = PlainNumber s 0 × Given (readU64 s 0) (λ (len, n). Plainly (bodyAt s n len))
+
+-- the local entry
 unfoldable pub Plain : List ℕ → Type 0
-Plain s = PlainNumber s 0 × Given (readU64 s 0) (λ (len, n). PlainBody (bodyAt s n len))
+Plain s = PlainEntry PlainBody s

@@ -1,28 +1,15 @@
 -- What a page knows of the entries on it: whether a whole entry stands at the head of a list of bytes, its size, its rowid.
 use mathlib.Core.Path.{_≡_}
-use mathlib.Core.Bool.{Bool, true, false}
 use mathlib.Core.List.{List, _++_}
 use Prim.Native.Nat.{ℕ, _≤_}
-use lib.IntN.{ℤ, pos}
+use lib.IntN.{ℤ}
 use lib.ListN.{length, take}
-use Rattle.paper.specs.Answer.{Answer, gives, refuses}
+use Rattle.paper.specs.Answer.{Answer, gives}
 use Rattle.cell.specs.Entry.{peekRowid}
 
 -- a reader of whole entries: the rowid, and the bytes that the entry takes
 abbrev pub View : Type 0
 View = List ℕ → Answer (ℤ × ℕ)
-
-unfoldable pub stands : Answer (ℤ × ℕ) → Bool
-stands (gives e) = true
-stands (refuses k) = false
-
-unfoldable pub keyOfEntry : Answer (ℤ × ℕ) → ℤ
-keyOfEntry (gives e) = e .0
-keyOfEntry (refuses k) = pos 0
-
-unfoldable pub sizeOfEntry : Answer (ℤ × ℕ) → ℕ
-sizeOfEntry (gives e) = e .1
-sizeOfEntry (refuses k) = 0
 
 -- the laws that a slotted page needs
 pub record Lawful (view : View) : Type 0 where

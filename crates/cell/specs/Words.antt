@@ -55,7 +55,7 @@ pub record Frame (s : List ℕ) (at end : ℕ) : Type 0 where
   pub inside : end < 2 ^ 63 → (at ≤ end) × (end ≤ length s)
 
 -- a local body that reads to its end: its rowid as ZigZag has it, its columns, and where its bitmap stands
-pub record Stands (body : List ℕ) (rowid count map : ℕ) : Type 0 where
+pub record ReadsToEnd (body : List ℕ) (rowid count map : ℕ) : Type 0 where
   pub blocks : List Block
   pub read : gives (unzigzag rowid, blocks) ≡ localBody body
   pub walk : gives (blocks, length body) ≡ columns count 0 map body (map + bitmapBytes count)
@@ -70,4 +70,4 @@ pub record RowidAt (body : List ℕ) (rowid at : ℕ) : Type 0 where
 pub record Locally (body : List ℕ) (rowid count map end : ℕ) : Type 0 where
   pub refused : 2 ^ 63 ≤ end → refuses (2 ^ 64 - 1 - end) ≡ localBody body
   pub top : 2 ^ 63 ≤ end → 2 ^ 64 - 256 ≤ end
-  pub given : end < 2 ^ 63 → Stands body rowid count map
+  pub given : end < 2 ^ 63 → ReadsToEnd body rowid count map

@@ -1,13 +1,13 @@
 -- Document 01, "Entries": the bytes of a local entry.
 use Prim.Native.Nat.{ℕ, zero, suc, _+_, _*_, _/_}
 use mathlib.Core.List.{List, [], _∷_, _++_}
-use lib.Dec.{ltb}
 use lib.IntN.{ℤ}
 use lib.ListN.{length, take, drop}
-use Rattle.paper.specs.Answer.{Answer, gives, refuses, andThen, pick}
+use Rattle.paper.specs.Answer.{Answer, gives, andThen, pick}
 use Rattle.field.specs.Field.{bytes}
 use Rattle.varint.specs.Leb.{lebBytes}
 use Rattle.varint.specs.Zigzag.{zigzag}
+use Rattle.cell.specs.Entry.{withLength, fitted}
 use Rattle.cell.specs.Block.{bitmapBytes}
 use Rattle.cell.specs.Content.{Content, none, whole, float, truth, letters, floats, Row}
 use Rattle.cell.specs.ValueList.{valueList}
@@ -49,12 +49,11 @@ bodyBytes (rowid, cs) =
     1 ∷ (lebBytes (zigzag rowid) ++ (lebBytes (length cs) ++ (bitmap (bitmapBytes (length cs)) cs ++ blocksBytes cs)))
 
 unfoldable pub entryBytes : Row → List ℕ
-entryBytes row = lebBytes (length (bodyBytes row)) ++ bodyBytes row
+entryBytes row = withLength (bodyBytes row)
 
 -- the value list's refusals; then the bytes, or 16 where the output is too short
 unfoldable pub encoded : ℤ → List ℕ → List ℕ → List ℕ → Answer (List ℕ)
 encoded rowid kinds words rest = andThen (valueList kinds words rest) (λ cs. gives (entryBytes (rowid, cs)))
 
 unfoldable pub writeCell : ℤ → List ℕ → List ℕ → List ℕ → ℕ → Answer (List ℕ)
-writeCell rowid kinds words rest room =
-    andThen (encoded rowid kinds words rest) (λ out. pick (ltb room (length out)) (refuses 16) (gives out))
+writeCell rowid kinds words rest room = andThen (encoded rowid kinds words rest) (fitted room)

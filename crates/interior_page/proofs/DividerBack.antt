@@ -17,9 +17,11 @@ use Rattle.varint.specs.Leb.{lebBytes}
 use Rattle.varint.specs.Standard.{Bytes}
 use Rattle.varint.specs.Zigzag.{zigzag}
 use Rattle.cell.specs.Keyed.{keyedAt, pageAt, keyedBytes}
-use Rattle.cell.proofs.KeyAgain.{then-gave, key-fits, key-same, page-small, page-fills, key-plain, Again, entry-read-written, entry-plain-written, entry-written-plain}
-use Rattle.cell.proofs.KeyBack.{entry-back, key-back, key-rest, page-back}
-use Rattle.cell.proofs.KeyWriting.{leb-most}
+use Rattle.cell.proofs.KeyAgain.{key-fits, key-same, page-small, page-fills, key-plain, Again, entry-read-written, entry-plain-written, entry-written-plain}
+use Rattle.cell.proofs.Accepting.{then-gave}
+use Rattle.cell.proofs.Whole.{entry-back}
+use Rattle.cell.proofs.KeyBack.{key-back, key-rest, page-back}
+use Rattle.cell.proofs.Numbers.{leb-most}
 use Rattle.interior_page.specs.InteriorCells.{interiorBody, interiorFrom, interiorBytes}
 use Rattle.interior_page.specs.Plain.{PlainInteriorBody, PlainInterior}
 

@@ -10,7 +10,7 @@ use Rattle.paper.proofs.Laws.{gives-one, first, second}
 use Rattle.cell.specs.Entry.{entry}
 use Rattle.cell.specs.Keyed.{keyedAt, pageAt}
 use Rattle.cell.specs.View.{Lawful}
-use Rattle.cell.proofs.KeyAgain.{then-gave}
+use Rattle.cell.proofs.Accepting.{then-gave}
 use Rattle.cell.proofs.Whole.{Whole, HasKey, whole-is, whole-some, whole-inside, whole-anywhere, keyed-key, rowid-peeked}
 use Rattle.interior_page.specs.InteriorCells.{interiorBody, interiorFrom}
 use Rattle.interior_page.specs.View.{interiorView}

@@ -15,7 +15,8 @@ use Rattle.field.proofs.Storing.{length-bytes}
 use Rattle.varint.specs.Leb.{lebBytes}
 use Rattle.varint.specs.Zigzag.{zigzag}
 use Rattle.cell.specs.Keyed.{keyOf, overAt}
-use Rattle.cell.proofs.KeyWriting.{leb-most, key-length, page-after, keyed-length, one-small, entry-writing}
+use Rattle.cell.proofs.Numbers.{leb-most}
+use Rattle.cell.proofs.KeyWriting.{key-length, page-after, keyed-length, one-small, entry-writing}
 use Rattle.cell.proofs.Placing.{placing}
 use Rattle.interior_page.specs.InteriorCells.{interiorBytes}
 use Rattle.interior_page.specs.Words.{dividerOf}

@@ -15,7 +15,7 @@ use Rattle.cell.specs.Entry.{entry, peekKind, peekRowid}
 use Rattle.cell.specs.Keyed.{keyedAt, pageAt}
 use Rattle.cell.specs.Local.{localBody, cellFrom, headFrom}
 use Rattle.cell.specs.View.{Lawful}
-use Rattle.cell.proofs.KeyAgain.{then-gave}
+use Rattle.cell.proofs.Accepting.{then-gave}
 use Rattle.cell.proofs.Whole.{Whole, HasKey, whole-is, whole-some, whole-inside, whole-anywhere, local-key, keyed-key, rowid-peeked, kind-anywhere}
 use Rattle.overflow.specs.Paged.{Paged, local, overflow, localPaged, referencePaged, pagedFrom}
 use Rattle.overflow.specs.Reference.{referenceBody, referenceFrom}

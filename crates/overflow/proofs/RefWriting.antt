@@ -16,7 +16,8 @@ use Rattle.field.proofs.Storing.{length-bytes}
 use Rattle.varint.specs.Leb.{lebBytes}
 use Rattle.varint.specs.Zigzag.{zigzag}
 use Rattle.cell.specs.Keyed.{keyOf, overAt}
-use Rattle.cell.proofs.KeyWriting.{leb-most, key-length, page-after, keyed-length, two-small, entry-writing}
+use Rattle.cell.proofs.Numbers.{leb-most}
+use Rattle.cell.proofs.KeyWriting.{key-length, page-after, keyed-length, two-small, entry-writing}
 use Rattle.cell.proofs.Placing.{then-over, placing}
 use Rattle.overflow.specs.Reference.{referenceBytes}
 use Rattle.overflow.specs.Words.{referenceOf}

@@ -5,8 +5,8 @@ use lib.IntN.{ℤ}
 use Rattle.paper.specs.Answer.{Answer, gives, andThen}
 use Rattle.field.specs.Field.{bytes}
 use Rattle.varint.specs.Leb.{readU64, lebBytes}
-use Rattle.cell.specs.Entry.{entry}
-use Rattle.cell.specs.Keyed.{keyedAt, pageAt, withLength, keyedBytes, fitted}
+use Rattle.cell.specs.Entry.{entry, withLength, fitted}
+use Rattle.cell.specs.Keyed.{keyedAt, pageAt, keyedBytes}
 
 -- as local to 3; an empty body or another kind 5; varints 1, 2; fewer than four bytes left 6; left over 10
 unfoldable pub referenceBody : List ℕ → Answer (ℤ × ℕ × ℕ)
