@@ -12,8 +12,8 @@ use lib.IntN.{ℤ}
 use lib.ListN.{length, take, drop, getD, length-drop}
 use mir.Syntax.{w64}
 use mir.Val.{Fits}
-use borrow.Author.Needs.{needs}
 use borrow.Author.Tests.{lt-ltb, le-ltb, le-leb, lt-leb, ltb-true, ltb-false, ne-eqb}
+use Rattle.paper.proofs.Laws.{paper}
 use Rattle.paper.specs.Answer.{Answer, gives, refuses, andThen, pick}
 use Rattle.paper.specs.Coded.{Coded}
 use Rattle.paper.proofs.Coding.{coded-place, coded-refusal}
@@ -237,7 +237,7 @@ module _ (body : List ℕ) (at : ℕ) where
         coded-refusal {k = 9} (rw (tagged refl, unknown (getD body at 0) body (at + 1) (past-four (getD body at 0) n0 n1 n2 n3 n4))) (omega arith) e
 
 pub ruleset ends = (
-  needs,
+  paper,
   at-inside,
   fixed-cut,
   fixed-end,

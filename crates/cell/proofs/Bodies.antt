@@ -7,12 +7,11 @@ use Prim.Native.Nat.{ℕ, _+_, _-_, _*_, _^_, _≤_, _<_}
 use native.Mathlib.Omega.{arith}
 use lib.Dec.{ltb, eqb}
 use lib.ListN.{length, getD}
-use borrow.Author.Needs.{needs}
 use borrow.Author.Tests.{lt-ltb, le-ltb, eq-eqb, ne-eqb, eqb-true, ltb-false}
 use Rattle.paper.specs.Answer.{Answer, gives, refuses, andThen, pick}
 use Rattle.paper.specs.Coded.{Coded}
 use Rattle.paper.proofs.Coding.{coded-place, coded-refusal, is-place, is-refusal, is-number}
-use Rattle.paper.proofs.Laws.{gives-one, gives-refuses, refuses-one}
+use Rattle.paper.proofs.Laws.{paper, gives-one, gives-refuses, refuses-one}
 use Rattle.varint.specs.Leb.{readU64}
 use Rattle.varint.specs.Scan.{FoundAt}
 use Rattle.varint.specs.Zigzag.{unzigzag}
@@ -201,7 +200,7 @@ module _ (s : List ℕ) {v n : ℕ} (f : FoundAt s 0 v n) where
         }
 
 pub ruleset bodies = (
-  needs,
+  paper,
   at-inside,
   body-short,
   body-refused,

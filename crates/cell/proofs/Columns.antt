@@ -8,12 +8,11 @@ use native.Mathlib.Nat.{sub-zero}
 use native.Mathlib.Omega.{arith}
 use lib.Dec.{ltb, eqb}
 use lib.ListN.{length, take, drop, getD}
-use borrow.Author.Needs.{needs}
 use borrow.Author.Tests.{ltb-true, ltb-false}
 use Rattle.paper.specs.Answer.{Answer, gives, refuses, andThen, pick}
 use Rattle.paper.specs.Coded.{Coded}
 use Rattle.paper.proofs.Coding.{coded-place, coded-refusal, is-place, is-refusal, is-number}
-use Rattle.paper.proofs.Laws.{gives-one, gives-refuses, first, second}
+use Rattle.paper.proofs.Laws.{paper, gives-one, gives-refuses, first, second}
 use Rattle.varint.specs.Leb.{readU64}
 use Rattle.varint.proofs.Places.{end-inside}
 use Rattle.utf8.specs.WellFormed.{wellFormed}
@@ -190,7 +189,7 @@ unfolding isNull
 null-bit body map c e = rw e
 
 pub ruleset walks = (
-  needs,
+  paper,
   eight,
   null-bit,
   column-null,

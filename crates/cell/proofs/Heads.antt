@@ -6,9 +6,8 @@ use Prim.Native.Nat.{ℕ, zero, suc, _+_, _-_, _^_, _≤_, _<_}
 use native.Mathlib.Omega.{arith}
 use lib.IntN.{ℤ}
 use lib.ListN.{length, take, drop, drop-of-length-le}
-use borrow.Author.Needs.{needs}
 use Rattle.paper.specs.Answer.{Answer, gives, andThen}
-use Rattle.paper.proofs.Laws.{gives-one, first}
+use Rattle.paper.proofs.Laws.{paper, gives-one, first}
 use Rattle.varint.specs.Leb.{readFrom, taken}
 use Rattle.varint.specs.Zigzag.{unzigzag}
 use Rattle.cell.specs.Entry.{framed, entry}
@@ -70,7 +69,7 @@ module _ (s : List ℕ) (pos : ℕ) where
   head-at e = rw (rest-all s pos) at e
 
 pub ruleset heads = (
-  needs,
+  paper,
   frame-number,
   head-unframed,
   frame-starts,

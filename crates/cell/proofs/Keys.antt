@@ -8,8 +8,8 @@ use native.Mathlib.Omega.{arith}
 use lib.ListN.{length, take, drop, getD}
 use mir.Syntax.{w32}
 use mir.Val.{Fits}
-use borrow.Author.Needs.{needs}
 use borrow.Author.Tests.{lt-ltb, le-ltb, eq-eqb, ne-eqb}
+use Rattle.paper.proofs.Laws.{paper}
 use Rattle.paper.specs.Answer.{Answer, gives, refuses, andThen, pick}
 use Rattle.paper.proofs.Coding.{coded-place, coded-refusal}
 use Rattle.field.specs.Field.{le}
@@ -111,4 +111,4 @@ module _ {A : Type 0} (read : List ℕ → Answer A) (s : List ℕ) {at end : �
         let n : at + (end - at) ≡ end = omega arith in
         rw (← f .given l, ← g, n)
 
-pub ruleset keys = (needs, page-cut, page-left, page-given, key-empty, key-other, key-short, key-long, key-given)
+pub ruleset keys = (paper, page-cut, page-left, page-given, key-empty, key-other, key-short, key-long, key-given)

@@ -9,8 +9,8 @@ use lib.ListN.{length, drop, getD, length-drop}
 use lib.Seq.{getD-drop, drop-drop}
 use mir.Syntax.{w64}
 use mir.Val.{Fits}
-use borrow.Author.Needs.{needs}
 use borrow.Author.Tests.{lt-ltb, le-ltb}
+use Rattle.paper.proofs.Laws.{paper}
 use Rattle.paper.specs.Answer.{Answer, refuses, andThen, pick}
 use Rattle.varint.specs.Leb.{readU64, readFrom}
 use Rattle.varint.specs.Number.{readI64}
@@ -115,7 +115,7 @@ module _ (s : List ℕ) (at : ℕ) {v n : ℕ} (f : FoundAt s at v n) where
   rowid-given e h d = rw (← signed-gives s at (at-value s at f e h) d)
 
 pub ruleset peeks = (
-  needs,
+  paper,
   kind-short,
   kind-long,
   kind-missing,

@@ -8,9 +8,9 @@ use native.Mathlib.Numerals.{add-one}
 use native.Mathlib.Omega.{arith}
 use lib.ListN.{length, take, drop, getD, set, length-append, length-drop, length-set, drop-of-length-le}
 use lib.Seq.{take-all, length-take-le, drop-drop, drop-cons, sets, sets-eq, take-at, drop-at}
-use borrow.Author.Needs.{needs}
 use borrow.Author.Tests.{lt-ltb, le-ltb}
 use borrow.Rule.Slice.PartMut.{putMid}
+use Rattle.paper.proofs.Laws.{paper}
 use Rattle.paper.specs.Answer.{pick, over, put, sizeOf}
 use Rattle.varint.specs.Paper.{paperWrote}
 use Rattle.varint.specs.declared.Wrote.the-variants as W
@@ -120,7 +120,7 @@ module _ {out₀ bytes out : List ℕ} {i : ℕ} (w : Storing out₀ bytes out i
       e ∙ sets-eq bytes out₀ 0 l ∙ ap (λ (n : ℕ). bytes ++ drop n out₀) z
 
 pub ruleset placing = (
-  needs,
+  paper,
   set-first,
   then-over,
   length-over,

@@ -13,12 +13,11 @@ use lib.IntN.{ℤ}
 use lib.ListN.{length, take, drop, getD, length-take, length-drop}
 use mir.Syntax.{w64}
 use mir.Val.{Fits}
-use borrow.Author.Needs.{needs}
 use borrow.Author.Tests.{lt-ltb, le-ltb, ltb-true, ltb-false, ne-eqb, eqb-true, eqb-false}
 use Rattle.paper.specs.Answer.{Answer, gives, refuses, andThen, pick}
 use Rattle.paper.specs.Coded.{Coded}
 use Rattle.paper.proofs.Coding.{is-place, is-refusal}
-use Rattle.paper.proofs.Laws.{gives-one, gives-refuses, first}
+use Rattle.paper.proofs.Laws.{paper, gives-one, gives-refuses, first}
 use Rattle.field.specs.Field.{le}
 use Rattle.field.proofs.Laws.{le-drop}
 use Rattle.varint.specs.Leb.{readU64}
@@ -366,7 +365,7 @@ module _ (buf : List ℕ) (pos column : ℕ) where
   entry-value p = rw (rest-all buf pos) at p
 
 pub ruleset values = (
-  needs,
+  paper,
   plain-pattern,
   nan-pattern,
   block-here,
