@@ -70,7 +70,7 @@ unfolding blocksAt
 blocks-read count body at {bs} e =
     let (t, g) = not-refused (ltb (length body - at) (bitmapBytes count)) 6 _ e in
     let (w, w-is, w-then) = then-gave (columns count 0 at body (at + bitmapBytes count)) _ g in
-    let (u, h) = not-other (eqb (w .1) (length body)) 10 _ (w-then) in
+    let (u, h) = not-other (eqb (w .1) (length body)) 10 _ w-then in
     let d : w .1 ≡ length body = eqb-true (w .1) (length body) u in
     record {
       walk = sym (w-is ∙ ap (λ (xs : List Block). gives (xs, w .1)) (gives-one h) ∙ ap (λ (x : ℕ). gives (bs, x)) d);
@@ -114,11 +114,11 @@ module _ (body : List ℕ) {rowid at : ℕ} (o : RowidAt body rowid at) {v n : �
         top = λ h. is-number k h;
         given = λ h.
             let (x, x-is, x-then) = then-gave (blocksAt v body (at + n)) _ (sym (is-place k h)) in
-            let r = blocks-read v body (at + n) (x-is) in
+            let r = blocks-read v body (at + n) x-is in
             let i = at-inside body at f z l in
             record {
               blocks = x;
-              read = rw (x-is) at counted;
+              read = rw x-is at counted;
               walk = r .walk;
               room = omega (arith, r .room);
             };

@@ -112,7 +112,7 @@ module _ (rowid : ℤ) (kinds words rest out : List ℕ) {cs : List Content} {e 
   unfolding writeCell fitted
   encoded-is =
       let (w, w-is, w-then) = then-gave (encoded rowid kinds words rest) (fitted (length out)) written in
-      let (t, g) = not-refused (ltb (length out) (length (w))) 16 (gives (w)) (w-then) in
+      let (t, g) = not-refused (ltb (length out) (length w)) 16 (gives w) w-then in
       w-is ∙ g
 
   pub output-back : (column : ℕ) → column < length cs → Answers (put out (writeCell rowid kinds words rest (length out))) 0 column (getD cs column none)

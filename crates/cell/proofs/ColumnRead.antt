@@ -53,7 +53,7 @@ module _ (buf : List ℕ) (pos : ℕ) where
     unfolding cellFrom entry andThen
     body-read =
         let (w, w-is, w-then) = then-gave (localBody (bodyAt (drop pos buf) start len)) (λ row. gives (row, start + len)) (rw f at e) in
-        w-is ∙ ap gives (ap first (gives-one (w-then)))
+        w-is ∙ ap gives (ap first (gives-one w-then))
 
     decides : (column : ℕ) → valueAt buf pos column ≡ pick (ltb column (length bs)) (gives (moved (pos + start) (nth bs column))) (refuses 12)
     unfolding valueAt valueFrom andThen
@@ -84,8 +84,8 @@ pub comes-from : (buf : List ℕ) (pos column : ℕ) {b : Block} → valueAt buf
 unfolding valueAt valueFrom
 comes-from buf pos column e =
     let (v, v-is, v-then) = then-gave (framed (drop pos buf)) _ e in
-    let (w, w-is, w-then) = then-gave (localBody (bodyAt (drop pos buf) (v .0) (v .1))) _ (v-then) in
-    let (t, g) = not-other (ltb column (length (w .1))) 12 _ (w-then) in
+    let (w, w-is, w-then) = then-gave (localBody (bodyAt (drop pos buf) (v .0) (v .1))) _ v-then in
+    let (t, g) = not-other (ltb column (length (w .1))) 12 _ w-then in
     record {
       start = v .0;
       len = v .1;
@@ -112,22 +112,22 @@ module _ (body : List ℕ) where
   unfolding blockOf pick
   tag-proper zero at e =
       let (w, w-is, w-then) = then-gave (readI64 body at) _ e in
-      rw (← ap first (gives-one (w-then))) tt
+      rw (← ap first (gives-one w-then)) tt
   tag-proper (suc zero) at e =
       let (t, g) = not-refused (ltb (length body - at) 8) 7 _ e in
       rw (← ap first (gives-one g)) refl
   tag-proper (suc (suc zero)) at e =
       let (v, v-is, v-then) = then-gave (readU64 body at) _ e in
-      let (w, w-is, w-then) = then-gave (checkAt body (at + v .1) (v .0)) _ (v-then) in
-      rw (← ap first (gives-one (w-then))) (gives-inside body (at + v .1) (v .0) (w-is), gives-well-formed body (at + v .1) (v .0) (w-is))
+      let (w, w-is, w-then) = then-gave (checkAt body (at + v .1) (v .0)) _ v-then in
+      rw (← ap first (gives-one w-then)) (gives-inside body (at + v .1) (v .0) w-is, gives-well-formed body (at + v .1) (v .0) w-is)
   tag-proper (suc (suc (suc zero))) at e =
       let (t, g) = not-other (ltb at (length body)) 7 _ e in
       rw (← ap first (gives-one g)) tt
   tag-proper (suc (suc (suc (suc zero)))) at e =
       let (v, v-is, v-then) = then-gave (readU64 body at) _ e in
-      let (t, g) = not-refused (ltb ((length body - (at + v .1)) / 4) (v .0)) 7 _ (v-then) in
+      let (t, g) = not-refused (ltb ((length body - (at + v .1)) / 4) (v .0)) 7 _ v-then in
       let l : v .0 ≤ (length body - (at + v .1)) / 4 = ltb-false ((length body - (at + v .1)) / 4) (v .0) t in
-      let i : at + v .1 ≤ length body = read-inside body at (v-is) in
+      let i : at + v .1 ≤ length body = read-inside body at v-is in
       rw (← ap first (gives-one g)) (omega arith)
   tag-proper (suc (suc (suc (suc (suc tag))))) at e = absurd (gives-refuses (sym e ∙ unknown (suc (suc (suc (suc (suc tag))))) body at (omega arith)))
 
@@ -156,9 +156,9 @@ module _ (body : List ℕ) where
   unfolding rowOf
   row-proper e i =
       let (v, v-is, v-then) = then-gave (readI64 body 1) _ e in
-      let (w, w-is, w-then) = then-gave (readU64 body (1 + v .1)) _ (v-then) in
-      let (x, x-is, x-then) = then-gave (blocksAt (w .0) body (1 + v .1 + w .1)) _ (w-then) in
-      rw (← ap second (gives-one (x-then))) (blocks-proper (w .0) (1 + v .1 + w .1) i (x-is))
+      let (w, w-is, w-then) = then-gave (readU64 body (1 + v .1)) _ v-then in
+      let (x, x-is, x-then) = then-gave (blocksAt (w .0) body (1 + v .1 + w .1)) _ w-then in
+      rw (← ap second (gives-one x-then)) (blocks-proper (w .0) (1 + v .1 + w .1) i x-is)
 
   body-proper : {rowid : ℤ} {bs : List Block} → localBody body ≡ gives (rowid, bs) → (i : ℕ) → Proper body (nth bs i)
   unfolding localBody

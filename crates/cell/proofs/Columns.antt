@@ -37,11 +37,11 @@ text-inside body at {e} g =
     let (v, v-is, v-then) = then-gave (readU64 body at) _ (sym g) in
     let len : ℕ = v .0 in
     let n : ℕ = v .1 in
-    let (t, f) = not-refused (ltb (length body - (at + n)) len) 7 _ (v-then) in
+    let (t, f) = not-refused (ltb (length body - (at + n)) len) 7 _ v-then in
     let (u, k) = not-other (wellFormed (take len (drop (at + n) body))) 8 _ f in
     let c : len ≤ length body - (at + n) = ltb-false (length body - (at + n)) len t in
     let d : at + n + len ≡ e = gives-one k in
-    let i : at + n ≤ length body = read-inside body at (v-is) in
+    let i : at + n ≤ length body = read-inside body at v-is in
     (omega arith, omega arith)
 
 vector-inside : (body : List ℕ) (at : ℕ) {e : ℕ} → gives e ≡ vectorEnd body at → (at ≤ e) × (e ≤ length body)
@@ -50,10 +50,10 @@ vector-inside body at {e} g =
     let (v, v-is, v-then) = then-gave (readU64 body at) _ (sym g) in
     let dim : ℕ = v .0 in
     let n : ℕ = v .1 in
-    let (t, f) = not-refused (ltb ((length body - (at + n)) / 4) dim) 7 _ (v-then) in
+    let (t, f) = not-refused (ltb ((length body - (at + n)) / 4) dim) 7 _ v-then in
     let c : dim ≤ (length body - (at + n)) / 4 = ltb-false ((length body - (at + n)) / 4) dim t in
     let d : at + n + 4 * dim ≡ e = gives-one f in
-    let i : at + n ≤ length body = read-inside body at (v-is) in
+    let i : at + n ≤ length body = read-inside body at v-is in
     (omega arith, omega arith)
 
 block-of-inside : (tag : ℕ) (body : List ℕ) (at : ℕ) {e : ℕ} → at ≤ length body → gives e ≡ endOf body at (blockOf tag body at) → (at ≤ e) × (e ≤ length body)
@@ -117,14 +117,14 @@ pub first-of : (n c map : ℕ) (body : List ℕ) (at : ℕ) {bs : List Block} {e
 unfolding columns
 first-of n c map body at g =
     let (v, v-is, v-then) = then-gave (reading c map body at) _ (sym g) in
-    let (w, w-is, w-then) = then-gave (columns n (c + 1) map body (v .1)) _ (v-then) in
+    let (w, w-is, w-then) = then-gave (columns n (c + 1) map body (v .1)) _ v-then in
     record {
       head = v .0;
       next = v .1;
       tail = w .0;
-      read = sym (v-is);
-      more = ap (λ (e : ℕ). gives (w .0, e)) (sym (ap second (gives-one (w-then)))) ∙ sym (w-is);
-      parts = ap first (gives-one (w-then));
+      read = sym v-is;
+      more = ap (λ (e : ℕ). gives (w .0, e)) (sym (ap second (gives-one w-then))) ∙ sym w-is;
+      parts = ap first (gives-one w-then);
     }
 
 -- ---- the columns, one after another

@@ -38,8 +38,8 @@ pub framing : (s : List ℕ) {n len : ℕ} → framed s ≡ gives (n, len) → F
 unfolding framed
 framing s {n} {len} e =
     let (v, v-is, v-then) = then-gave (readFrom s) _ e in
-    let w = read-is s (v-is) in
-    let (t, g) = not-refused (ltb (length s - v .1) (v .0)) 3 _ (v-then) in
+    let w = read-is s v-is in
+    let (t, g) = not-refused (ltb (length s - v .1) (v .0)) 3 _ v-then in
     let c : v .0 ≤ length s - v .1 = ltb-false (length s - v .1) (v .0) t in
     let a : v .1 ≡ n = ap first (gives-one g) in
     let b : v .0 ≡ len = ap second (gives-one g) in
@@ -101,13 +101,13 @@ module _ {A : Type 0} (read : List ℕ → Answer A) where
   unfolding entry
   whole-is s e =
       let (v, v-is, v-then) = then-gave (framed s) _ e in
-      let (w, w-is, w-then) = then-gave (read (bodyAt s (v .0) (v .1))) _ (v-then) in
+      let (w, w-is, w-then) = then-gave (read (bodyAt s (v .0) (v .1))) _ v-then in
       record {
         place = v .0;
         len = v .1;
-        frame = framing s (v-is);
-        sum = ap second (gives-one (w-then));
-        body = w-is ∙ ap gives (ap first (gives-one (w-then)));
+        frame = framing s v-is;
+        sum = ap second (gives-one w-then);
+        body = w-is ∙ ap gives (ap first (gives-one w-then));
       }
 
   module _ (s : List ℕ) {a : A} {size : ℕ} (w : Whole read s a size) where
@@ -141,14 +141,14 @@ local-key body e =
     let (t, g) = not-refused (eqb (length body) 0) 4 _ e in
     let (u, h) = not-other (eqb (getD body 0 0) 1) 5 _ g in
     let (v, v-is, v-then) = then-gave (readI64 body 1) _ h in
-    let (w, w-is, w-then) = then-gave (readU64 body (1 + v .1)) _ (v-then) in
-    let (x, x-is, x-then) = then-gave (blocksAt (w .0) body (1 + v .1 + w .1)) _ (w-then) in
+    let (w, w-is, w-then) = then-gave (readU64 body (1 + v .1)) _ v-then in
+    let (x, x-is, x-then) = then-gave (blocksAt (w .0) body (1 + v .1 + w .1)) _ w-then in
     let z = eqb-false (length body) 0 t in
     record {
       some = omega (arith, z);
       first-byte = eqb-true (getD body 0 0) 1 u;
       taken = v .1;
-      read = v-is ∙ ap (λ (r : ℤ). gives (r, v .1)) (ap first (gives-one (x-then)));
+      read = v-is ∙ ap (λ (r : ℤ). gives (r, v .1)) (ap first (gives-one x-then));
     }
 
 pub keyed-key : (kind : ℕ) (body : List ℕ) {rowid : ℤ} {at : ℕ} → keyedAt kind body ≡ gives (rowid, at) → HasKey kind body rowid
@@ -162,7 +162,7 @@ keyed-key kind body e =
       some = omega (arith, z);
       first-byte = eqb-true (getD body 0 0) kind u;
       taken = v .1;
-      read = v-is ∙ ap (λ (r : ℤ). gives (r, v .1)) (ap first (gives-one (v-then)));
+      read = v-is ∙ ap (λ (r : ℤ). gives (r, v .1)) (ap first (gives-one v-then));
     }
 
 -- ---- what is peeked at is what is read
