@@ -9,6 +9,7 @@ from pathlib import Path
 
 import gate
 import listed
+import theorems
 
 
 class Listed(unittest.TestCase):
@@ -32,6 +33,33 @@ class Listed(unittest.TestCase):
 
     def test_crate_with_no_folder(self):
         self.assertEqual(self.ask("a:\nb: a\n", ["a"]), (["crates.txt lists b, and there is no crates/b"], 1))
+
+
+class Theorems(unittest.TestCase):
+    def ask(self, table, modules):
+        with tempfile.TemporaryDirectory() as name:
+            root = Path(name)
+            (root / "docs").mkdir()
+            (root / "docs/THEOREMS.md").write_text(table)
+            for module, text in modules.items():
+                path = root / "crates" / (module + ".antt")
+                path.parent.mkdir(parents=True, exist_ok=True)
+                path.write_text(text)
+            return theorems.missing(root)
+
+    def test_names_that_are_there(self):
+        table = "| In words | Proof (`a/proofs/`) |\n|---|---|\n| x | `One`: `first` |\n| y | `second`, `b/proofs/Two`: `all-…` |\n"
+        modules = {"a/proofs/One": "pub first : A\n  pub second : B\n", "b/proofs/Two": "pub all-of : C\n"}
+        self.assertEqual(self.ask(table, modules), ([], 3))
+
+    def test_a_name_of_several_modules(self):
+        table = "| In words | Proof |\n|---|---|\n| x | `a/proofs/One`, `b/proofs/Two`: `first` |\n"
+        modules = {"a/proofs/One": "pub first : A\n", "b/proofs/Two": "first : A\n"}
+        self.assertEqual(self.ask(table, modules), (["docs/THEOREMS.md names first of b/proofs/Two, which has no such theorem"], 1))
+
+    def test_a_module_that_is_not_there(self):
+        table = "| In words | Proof |\n|---|---|\n| x | `a/proofs/One`: `first` |\n"
+        self.assertEqual(self.ask(table, {}), (["docs/THEOREMS.md names first of a/proofs/One, which has no such theorem"], 0))
 
 
 class Counted(unittest.TestCase):
