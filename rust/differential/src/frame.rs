@@ -224,7 +224,7 @@ impl Comparison {
         self.scale > 1
     }
 
-    /// Whether this run tries what takes an hour too.
+    /// Whether this run tries what takes hours too.
     pub fn longest(&self) -> bool {
         self.scale >= 100
     }

@@ -1,7 +1,7 @@
 //! The proved calls against the originals, call by call.
 //!
 //! ```text
-//! differential [--seed N] [--scale N] [LAYER..]     compare; scale 1 takes a minute, a larger one tries more, and one from 100 on takes an hour
+//! differential [--seed N] [--scale N] [LAYER..]     compare; scale 1 takes a minute, a larger one tries more, and one from 100 on takes hours
 //! differential record FOLDER                        write the originals' answers on a fixed sample: FOLDER/data/LAYER.txt and FOLDER/stdout
 //! ```
 //!
