@@ -47,6 +47,13 @@ module _ (body : List ℕ) (at : ℕ) where
       }
 
 -- ---- the rowid
+pub key-empty : (kind : ℕ) (body : List ℕ) → length body ≡ 0 → refuses 5 ≡ keyedAt kind body
+unfolding keyedAt pick
+key-empty kind body e = rw (eq-eqb (length body) 0 e)
+
+some : (body : List ℕ) → 0 < length body → length body ≡ 0 → ⊥
+some body p e = omega arith
+
 module _ (kind : ℕ) (body : List ℕ) {a : ℕ} where
   key-refused : {at : ℕ} (k : ℕ) → refuses k ≡ keyedAt kind body → k < 256 → at ≡ 2 ^ 64 - 1 - k → Keyed kind body a at
   key-refused {at} k g l d =
@@ -58,29 +65,25 @@ module _ (kind : ℕ) (body : List ℕ) {a : ℕ} where
         inside = λ h. absurd (omega (arith, h));
       }
 
-  pub key-empty : {at : ℕ} → length body ≡ 0 → at ≡ 2 ^ 64 - 1 - 5 → Keyed kind body a at
-  unfolding keyedAt pick
-  key-empty e d = key-refused 5 (rw (eq-eqb (length body) 0 e)) (omega arith) d
-
-  module _ (s : length body ≡ 0 → ⊥) where
+  module _ (p : 0 < length body) where
     pub key-other : {at : ℕ} → (getD body 0 0 ≡ kind → ⊥) → at ≡ 2 ^ 64 - 1 - 5 → Keyed kind body a at
     unfolding keyedAt pick
-    key-other n d = key-refused 5 (rw (ne-eqb (length body) 0 s, ne-eqb (getD body 0 0) kind n)) (omega arith) d
+    key-other n d = key-refused 5 (rw (ne-eqb (length body) 0 (some body p), ne-eqb (getD body 0 0) kind n)) (omega arith) d
 
     module _ (k : getD body 0 0 ≡ kind) {v n : ℕ} (f : FoundAt body 1 v n) where
       pub key-short : {at : ℕ} → n ≡ 0 → at ≡ 2 ^ 64 - 1 - 1 → Keyed kind body a at
       unfolding keyedAt pick andThen
       key-short z d =
           key-refused 1
-          (rw (ne-eqb (length body) 0 s, eq-eqb (getD body 0 0) kind k, ← signed-refuses body 1 (at-short body 1 f z))) (omega arith) d
+          (rw (ne-eqb (length body) 0 (some body p), eq-eqb (getD body 0 0) kind k, ← signed-refuses body 1 (at-short body 1 f z))) (omega arith) d
 
       pub key-long : {at : ℕ} → 10 < n → at ≡ 2 ^ 64 - 1 - 2 → Keyed kind body a at
       unfolding keyedAt pick andThen
       key-long l d =
           key-refused 2
-          (rw (ne-eqb (length body) 0 s, eq-eqb (getD body 0 0) kind k, ← signed-refuses body 1 (at-long body 1 f l))) (omega arith) d
+          (rw (ne-eqb (length body) 0 (some body p), eq-eqb (getD body 0 0) kind k, ← signed-refuses body 1 (at-long body 1 f l))) (omega arith) d
 
-module _ (kind : ℕ) (body : List ℕ) (s : length body ≡ 0 → ⊥) (k : getD body 0 0 ≡ kind) {v n : ℕ} (f : FoundAt body 1 v n) where
+module _ (kind : ℕ) (body : List ℕ) (p : 0 < length body) (k : getD body 0 0 ≡ kind) {v n : ℕ} (f : FoundAt body 1 v n) where
   pub key-given : (n ≡ 0 → ⊥) → n ≤ 10 → length body * 1 < 2 ^ 63 → Keyed kind body v (1 + n)
   unfolding keyedAt pick andThen
   key-given z l b =
@@ -90,8 +93,11 @@ module _ (kind : ℕ) (body : List ℕ) (s : length body ≡ 0 → ⊥) (k : get
         top = λ h. absurd (omega (arith, h));
         inside = λ h. i;
         given = λ h.
-            rw (ne-eqb (length body) 0 s, eq-eqb (getD body 0 0) kind k, ← signed-gives body 1 (at-value body 1 f z l) refl);
+            rw (ne-eqb (length body) 0 (some body p), eq-eqb (getD body 0 0) kind k, ← signed-gives body 1 (at-value body 1 f z l) refl);
       }
+
+pub key-inside : {kind : ℕ} {body : List ℕ} {rowid at : ℕ} → Keyed kind body rowid at → at < 2 ^ 63 → at ≤ length body
+key-inside w l = w .inside l
 
 -- ---- entries of any kind: from the frame, and from what the body says
 module _ {A : Type 0} (read : List ℕ → Answer A) (s : List ℕ) {at end : ℕ} (f : Frame s at end) where
@@ -111,4 +117,4 @@ module _ {A : Type 0} (read : List ℕ → Answer A) (s : List ℕ) {at end : �
         let n : at + (end - at) ≡ end = omega arith in
         rw (← f .given l, ← g, n)
 
-pub ruleset keys = (paper, page-cut, page-left, page-given, key-empty, key-other, key-short, key-long, key-given)
+pub ruleset keys = (paper, page-cut, page-left, page-given, key-other, key-short, key-long, key-given)

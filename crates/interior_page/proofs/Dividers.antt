@@ -15,17 +15,30 @@ use Rattle.paper.specs.Answer.{Answer, andThen}
 use Rattle.paper.proofs.Coding.{is-place, is-refusal, is-number}
 use Rattle.varint.specs.Leb.{readFrom, taken}
 use Rattle.varint.specs.Zigzag.{unzigzag}
+use Rattle.varint.proofs.Reading.{going-start}
+use Rattle.varint.proofs.Places.{found-apart}
 use Rattle.cell.specs.Entry.{framed, entry}
 use Rattle.cell.specs.Keyed.{Keyed, PageWord}
 use Rattle.cell.specs.Words.{Frame}
 use Rattle.cell.proofs.Heads.{frame-number, frame-starts, frame-ends}
-use Rattle.cell.proofs.Keys.{entry-unframed, entry-refused, entry-given}
+use Rattle.cell.proofs.Keys.{key-empty, key-inside, entry-unframed, entry-refused, entry-given}
 use Rattle.interior_page.specs.InteriorCells.{interiorBody, interiorFrom}
 use Rattle.interior_page.specs.Words.{Divides}
 use Rattle.interior_page.specs.Paper.{paperInterior}
 use Rattle.interior_page.specs.declared.DecodedInterior.the-variants as D
 
 -- ---- the body
+pub divider-empty : (body : List ℕ) {a child : ℕ} → length body ≡ 0 → child ≡ 2 ^ 64 - 1 - 5 → Divides body a child
+unfolding interiorBody andThen
+divider-empty body {a} {child} z d =
+    let e : 2 ^ 64 - 1 - child ≡ 5 = omega arith in
+    record {
+      refused = λ h. rw (← key-empty 3 body z, e);
+      top = λ h. omega arith;
+      given = λ h. absurd (omega (arith, h));
+      small = λ h. absurd (omega (arith, h));
+    }
+
 module _ (body : List ℕ) {rowid at : ℕ} (w : Keyed 3 body rowid at) where
   pub divider-unkeyed : {a : ℕ} → 2 ^ 63 ≤ at → Divides body a at
   unfolding interiorBody andThen
@@ -38,9 +51,6 @@ module _ (body : List ℕ) {rowid at : ℕ} (w : Keyed 3 body rowid at) where
       }
 
   module _ (l : at < 2 ^ 63) where
-    pub key-inside : at ≤ length body
-    key-inside = w .inside l
-
     pub divider-given : {child : ℕ} → PageWord body at child → Divides body rowid child
     unfolding interiorBody andThen
     divider-given k =
@@ -84,6 +94,9 @@ module _ (s : List ℕ) (pos : ℕ) where
 
 pub ruleset dividers = (
   paper,
+  going-start,
+  found-apart,
+  divider-empty,
   divider-unkeyed,
   key-inside,
   divider-given,

@@ -10,6 +10,7 @@ ghost use Rattle.interior_page.specs.Paper.{paperInterior};
 ghost use Rattle.interior_page.specs.Words.{Divides, dividerOf};
 use cell::inner::NO_PLACE;
 use paper::inner::number;
+use paper::inner::refusal;
 use varint::Wrote;
 
 // One divider: rowids up to `divider_rowid` live under `child_page`.
@@ -33,7 +34,14 @@ struct DividerWords {
 fn divider_body(body: &[u8]) -> DividerWords
     ensures { λ r. ⌜ Divides (now (body .entry)) (r .divider) (r .child) ⌝ }
 {
-    let key = cell::inner::keyed::key_of(body, cell::KIND_INTERIOR);
+    if body.len() == 0 {
+        return DividerWords {
+            divider: 0,
+            child: refusal(5),
+        };
+    }
+    let rowid = varint::inner::scan(&body[1..], 0, 0);
+    let key = cell::inner::keyed::key_of(body, cell::KIND_INTERIOR, rowid);
     let at = key.at;
     if NO_PLACE <= at {
         return DividerWords {

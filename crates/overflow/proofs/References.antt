@@ -14,14 +14,15 @@ use Rattle.paper.proofs.Laws.{paper}
 use Rattle.paper.specs.Answer.{Answer, refuses, andThen}
 use Rattle.paper.proofs.Coding.{is-place, is-refusal, is-number}
 use Rattle.varint.specs.Leb.{readFrom, taken}
-use Rattle.varint.specs.Scan.{FoundAt}
+use Rattle.varint.specs.Scan.{Found, FoundAt}
 use Rattle.varint.specs.Zigzag.{unzigzag}
-use Rattle.varint.proofs.Places.{at-short, at-long, at-value, at-inside}
+use Rattle.varint.proofs.Reading.{going-start}
+use Rattle.varint.proofs.Places.{found-apart, at-short, at-long, at-value, at-inside}
 use Rattle.cell.specs.Entry.{framed, entry}
 use Rattle.cell.specs.Keyed.{Keyed, PageWord}
 use Rattle.cell.specs.Words.{Frame}
 use Rattle.cell.proofs.Heads.{frame-number, frame-starts, frame-ends}
-use Rattle.cell.proofs.Keys.{entry-unframed, entry-refused, entry-given}
+use Rattle.cell.proofs.Keys.{key-empty, key-inside, entry-unframed, entry-refused, entry-given}
 use Rattle.overflow.specs.Reference.{referenceBody, referenceFrom}
 use Rattle.overflow.specs.Words.{Refers}
 use Rattle.overflow.specs.Paper.{paperRef}
@@ -39,6 +40,10 @@ module _ (body : List ℕ) where
         small = λ h. absurd (omega (arith, h));
       }
 
+  pub reference-empty : {a b k page : ℕ} → length body ≡ 0 → k ≡ 2 ^ 64 - 1 - 5 → page ≡ k → Refers body a b page
+  unfolding referenceBody andThen
+  reference-empty z d e = refers-not 5 (rw (← key-empty 2 body z)) (omega arith) (e ∙ d)
+
   module _ {rowid at : ℕ} (w : Keyed 2 body rowid at) where
     pub reference-unkeyed : {a b page : ℕ} → 2 ^ 63 ≤ at → at < 2 ^ 64 → page ≡ at → Refers body a b page
     unfolding referenceBody andThen
@@ -46,7 +51,10 @@ module _ (body : List ℕ) where
         let t = w .top l in
         refers-not (2 ^ 64 - 1 - at) (rw (← w .refused l)) (omega arith) (omega arith)
 
-    module _ (l : at < 2 ^ 63) {v n : ℕ} (f : FoundAt body at v n) where
+    module _ (l : at < 2 ^ 63) {v n : ℕ} (found : Found (take (length body - at) (drop at body)) v n) where
+      f : FoundAt body at v n
+      f = found-apart body at found
+
       pub total-short : {a b k page : ℕ} → n ≡ 0 → k ≡ 2 ^ 64 - 1 - 1 → page ≡ k → Refers body a b page
       unfolding referenceBody andThen
       total-short z d e = refers-not 1 (rw (← w .given l, ← at-short body at f z)) (omega arith) (e ∙ d)
@@ -64,6 +72,9 @@ module _ (body : List ℕ) where
             given = λ h. rw (← w .given l, ← at-value body at f z m, ← is-place (k .coded) h);
             small = λ h. k .small h;
           }
+
+pub total-inside : (s : List ℕ) (at : ℕ) {v n : ℕ} → Found (take (length s - at) (drop at s)) v n → (n ≡ 0 → ⊥) → n ≤ 10 → at + n ≤ length s
+total-inside s at f z l = at-inside s at (found-apart s at f) z l
 
 pub refers-fits : {body : List ℕ} {rowid total page : ℕ} → Refers body rowid total page → page < 2 ^ 63 → Fits w32 page
 refers-fits r h = record { fits = r .small h }
@@ -98,7 +109,10 @@ module _ (s : List ℕ) (pos : ℕ) where
 
 pub ruleset references = (
   paper,
-  at-inside,
+  going-start,
+  found-apart,
+  key-inside,
+  reference-empty,
   reference-unkeyed,
   total-short,
   total-long,

@@ -55,12 +55,16 @@ fn no_reference(word: usize) -> RefWords
 fn reference_body(body: &[u8]) -> RefWords
     ensures { λ r. ⌜ Refers (now (body .entry)) (r .rowid) (r .total) (r .page) ⌝ }
 {
-    let key = cell::inner::keyed::key_of(body, cell::KIND_OVERFLOW);
+    if body.len() == 0 {
+        return no_reference(refusal(5));
+    }
+    let rowid = varint::inner::scan(&body[1..], 0, 0);
+    let key = cell::inner::keyed::key_of(body, cell::KIND_OVERFLOW, rowid);
     let at = key.at;
     if NO_PLACE <= at {
         return no_reference(at);
     }
-    let total = varint::inner::value_at(body, at);
+    let total = varint::inner::scan(&body[at..], 0, 0);
     if total.taken == 0 {
         return no_reference(refusal(1));
     }

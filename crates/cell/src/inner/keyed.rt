@@ -7,7 +7,9 @@ ghost use Rattle.cell.specs.Keyed.{Keyed, PageWord, keyOf, overAt};
 ghost use Rattle.paper.specs.Answer.{over};
 ghost use Rattle.field.specs.Field.{bytes};
 ghost use Rattle.varint.specs.Leb.{lebBytes};
+ghost use Rattle.varint.specs.Scan.{FoundAt};
 use paper::inner::refusal;
+use varint::inner::Scanned;
 
 // The rowid as ZigZag has it, and the place behind it or a refusal.
 pub struct Key {
@@ -24,17 +26,15 @@ fn no_key(number: u8) -> Key
     }
 }
 
-pub fn key_of(body: &[u8], kind: u8) -> Key
+// The key of a body that has a byte. What stands behind the kind byte is scanned by the caller, so that the scan is laid out there.
+pub fn key_of(body: &[u8], kind: u8, rowid: Scanned) -> Key
+    requires { ⌜ (0 < length (now body)) × FoundAt (now body) 1 (rowid .value) (rowid .taken) ⌝ }
     ensures { λ r. ⌜ Keyed kind (now (body .entry)) (r .rowid) (r .at) ⌝ }
 {
-    if body.len() == 0 {
-        return no_key(5);
-    }
     let first = body[0];
     if first != kind {
         return no_key(5);
     }
-    let rowid = varint::inner::value_at(body, 1);
     if rowid.taken == 0 {
         return no_key(1);
     }

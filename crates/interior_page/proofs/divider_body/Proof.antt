@@ -9,5 +9,11 @@ divider-body-spec =
     (tie.spec
     (λ c κs. search dividers)
     (λ c. search dividers)
+    (λ c. search dividers)
+    (λ c. search dividers)
+    (λ c. search dividers)
+    (λ c κs. search dividers)
+    (λ c κs. search dividers)
+    (λ c. search dividers)
     (λ c κs. search dividers)
     (λ c. search dividers))

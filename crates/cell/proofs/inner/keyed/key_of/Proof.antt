@@ -7,12 +7,9 @@ pub key-of-spec : {M : Type 1} → statement M
 key-of-spec =
     tie.close
     (tie.spec
-    (λ c κs. search keys)
-    (λ c. search keys)
     (λ c. search keys)
     (λ c κs. search keys)
     (λ c. search keys)
-    (λ c κs. search keys)
     (λ c κs. search keys)
     (λ c. search keys)
     (λ c κs. search keys)
