@@ -162,12 +162,15 @@ fn reference() {
     references::write_to_25(i64::MIN, u64::MAX, u32::MAX);
 }
 
-// The kind byte decides: a cell, a reference, a divider, and no kind byte.
+// The kind byte decides: a cell, a reference, a divider, and no kind byte. It is looked for in the buffer: behind an empty body stands
+// one, and then the reader of that kind refuses the body.
 fn paged() {
     references::read_paged(b"\x0B\x01\x02\x04\x02\x00\x0A\x02\x01\x41\x03\x01");
     references::read_paged(b"\x08\x02\x0E\x88\x27\x09\x00\x00\x00");
     references::read_paged(b"\x06\x03\x14\x03\x00\x00\x00");
-    references::read_paged(b"\x06");
+    references::read_paged(b"\x05");
+    references::read_paged(b"\x00\x01");
+    references::read_paged(b"\x00\x02");
 }
 
 // Divider 10, child 3; and its neighbours, as for references. The largest one takes 16 bytes, and an output of 15 is refused.
