@@ -15,6 +15,17 @@ fn an_overflow_is_outside_the_domain() {
     assert_eq!(oracle::ask(|| cell::Cell::encoded_size_at(&entry, 0)), Reply::Accepted(usize::MAX));
 }
 
+/// The smallest inputs of docs/DIFFERENCES.md on which the original panics: an entry's size, a vector's end and a text's end that pass the machine word.
+#[test]
+fn the_smallest_inputs_outside_the_domain() {
+    let size = [0xF6, 0xFF, 0xFF, 0xFF, 0xFF, 0xFF, 0xFF, 0xFF, 0xFF, 0x01];
+    assert_eq!(oracle::ask(|| cell::Cell::encoded_size_at(&size, 0)), Reply::Outside);
+    let vector = [0x0E, 0x01, 0x00, 0x01, 0x00, 0x04, 0x80, 0x80, 0x80, 0x80, 0x80, 0x80, 0x80, 0x80, 0x40];
+    assert_eq!(oracle::ask(|| cell::Cell::decode(&vector, 0)), Reply::Outside);
+    let text = [0x0F, 0x01, 0x00, 0x01, 0x00, 0x02, 0xFF, 0xFF, 0xFF, 0xFF, 0xFF, 0xFF, 0xFF, 0xFF, 0xFF, 0x01];
+    assert_eq!(oracle::ask(|| cell::Cell::decode(&text, 0)), Reply::Outside);
+}
+
 /// The copy that `bench` times has none in a release build, as a service would run it: there the same sum wraps.
 #[test]
 fn the_timed_copy_has_no_overflow_checks_in_release() {
