@@ -7,3 +7,4 @@ pub mod Standard
 pub mod Zigzag
 pub mod Exact
 pub mod Places
+pub mod Words

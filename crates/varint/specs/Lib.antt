@@ -4,3 +4,4 @@ pub mod Zigzag
 pub mod Number
 pub mod Paper
 pub mod Scan
+pub mod Word

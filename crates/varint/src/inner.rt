@@ -10,6 +10,8 @@ ghost use Rattle.paper.specs.Coded.{Coded};
 ghost use Rattle.varint.specs.Leb.{endU64, lenU64, lebBytes};
 ghost use Rattle.varint.specs.Zigzag.{zigzag};
 ghost use Rattle.varint.specs.Scan.{Going, Found, FoundAt};
+ghost use Rattle.varint.specs.Word.{ClosesUp, InWord};
+use field::inner::u64_at;
 use paper::inner::wide;
 
 // The sum so far with the low seven bits of byte `i`: what passes 64 bits is dropped.
@@ -98,6 +100,42 @@ pub fn end_at(buf: &[u8], pos: usize) -> usize
         return paper::inner::refusal(2);
     }
     pos + found.taken
+}
+
+// The high bit of each byte of a word, and the low seven bits.
+const HIGH: u64 = 0x8080_8080_8080_8080;
+const LOW: u64 = 0x7F7F_7F7F_7F7F_7F7F;
+
+// Eight groups of seven bits, one in each byte, with the gaps between them closed: in twos, in fours, in eights.
+fn closed_up(groups: u64) -> u64
+    ensures { λ r. ⌜ ClosesUp groups r ⌝ }
+{
+    let twos = groups - (groups & 0x7F00_7F00_7F00_7F00) / 2;
+    let odd = twos & 0x3FFF_0000_3FFF_0000;
+    let fours = twos - odd + odd / 4;
+    fours % 0x1_0000_0000 + fours / 0x1_0000_0000 * 0x1000_0000
+}
+
+// The number at the start of `s`, where it ends within eight bytes; no byte taken where it does not. One word is read, and no byte
+// is branched on.
+pub fn in_word(s: &[u8]) -> Scanned
+    requires { ⌜ 8 ≤ length (now s) ⌝ }
+    ensures { λ r. ⌜ InWord (now (s .entry)) (r .value) (r .taken) ⌝ }
+{
+    let word = u64_at(s);
+    // The bytes that end a number have their high bit clear.
+    let ends = !word & HIGH;
+    if ends == 0 {
+        return Scanned { value: 0, taken: 0 };
+    }
+    let zeros = u64::trailing_zeros(ends) as usize;
+    // What stands up to the first end.
+    let upto = ends ^ (ends - 1);
+    let value = closed_up(word & upto & LOW);
+    Scanned {
+        value,
+        taken: (zeros + 1) / 8,
+    }
 }
 
 // ZigZag of the signed number whose 64-bit pattern this is: the pattern added to itself, which drops the top bit, complemented for
