@@ -4,6 +4,7 @@ pub mod Bodies
 pub mod Peeks
 pub mod Heads
 pub mod Keys
+pub mod Short
 pub mod Values
 pub mod ExactValue
 pub mod Placing

@@ -1,20 +1,25 @@
--- Reading after writing, for every width.
+-- Reading from a part, and after writing, for every width.
 -- Assumes nothing.
 use mathlib.Core.Path.{_≡_, refl, sym, _∙_}
 use mathlib.Core.List.{List, _∷_, _++_}
-use Prim.Native.Nat.{ℕ, zero, suc, _+_, _*_, _/_, _%_, _^_, _<_}
+use Prim.Native.Nat.{ℕ, zero, suc, _+_, _*_, _/_, _%_, _^_, _≤_, _<_}
 use native.Mathlib.Omega.{arith}
-use lib.ListN.{drop}
-use lib.Seq.{getD-drop}
+use lib.ListN.{take, drop}
+use lib.Seq.{getD-take, getD-drop}
 use lib.Pow.{shr-lt}
 use Rattle.field.specs.Field.{le, bytes}
 
--- a field depends on the bytes from its place on, and no others
+-- a field depends on its own bytes, and no others: none before its place
 pub le-drop : (n i j : ℕ) (s : List ℕ) → le n i (drop j s) ≡ le n (j + i) s
 le-drop zero i j s = refl
 le-drop (suc n) i j s =
     let e : j + suc i ≡ suc (j + i) = omega arith in
     rw (getD-drop j s i 0, le-drop n (suc i) j s, e)
+
+-- and none behind its end
+pub le-take : (n i m : ℕ) (s : List ℕ) → i + n ≤ m → le n i (take m s) ≡ le n i s
+le-take zero i m s l = refl
+le-take (suc n) i m s l = rw (getD-take m s i 0 (omega arith), le-take n (suc i) m s (omega arith))
 
 -- what is written is read back, with anything behind it
 pub le-bytes : (n v : ℕ) (t : List ℕ) → v < 2 ^ (8 * n) → le n 0 (bytes n v ++ t) ≡ v

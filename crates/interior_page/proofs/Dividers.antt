@@ -1,19 +1,21 @@
 -- Reading an interior cell: what the code's tests say of its definition.
 -- Assumes nothing.
-use mathlib.Core.Path.{_≡_, refl}
+use mathlib.Core.Path.{_≡_, refl, _∙_}
 use mathlib.Core.List.{List}
-use Prim.Native.Nat.{ℕ, _-_, _^_, _≤_, _<_}
+use Prim.Native.Nat.{ℕ, _+_, _-_, _*_, _^_, _≤_, _<_}
 use native.Mathlib.Nat.{le-of-eq}
 use native.Mathlib.Omega.{arith}
 use lib.IntN.{ℤ}
-use lib.ListN.{length, take, drop, length-drop, drop-of-length-le}
+use lib.ListN.{length, take, drop, getD, length-drop, drop-of-length-le}
 use lib.Seq.{take-all}
 use mir.Syntax.{w32}
 use mir.Val.{Fits}
 use Rattle.paper.proofs.Laws.{paper}
 use Rattle.paper.specs.Answer.{Answer, andThen}
 use Rattle.paper.proofs.Coding.{is-place, is-refusal, is-number}
+use Rattle.field.specs.Field.{le}
 use Rattle.varint.specs.Leb.{readFrom, taken}
+use Rattle.varint.specs.Word.{InWord}
 use Rattle.varint.specs.Zigzag.{unzigzag}
 use Rattle.varint.proofs.Reading.{going-start}
 use Rattle.varint.proofs.Places.{found-apart}
@@ -22,6 +24,7 @@ use Rattle.cell.specs.Keyed.{Keyed, PageWord}
 use Rattle.cell.specs.Words.{Frame}
 use Rattle.cell.proofs.Heads.{frame-number, frame-starts, frame-ends}
 use Rattle.cell.proofs.Keys.{key-empty, key-inside, entry-unframed, entry-refused, entry-given}
+use Rattle.cell.proofs.Short.{short-frame, short-key, short-page}
 use Rattle.interior_page.specs.InteriorCells.{interiorBody, interiorFrom}
 use Rattle.interior_page.specs.Words.{Divides}
 use Rattle.interior_page.specs.Paper.{paperInterior}
@@ -83,6 +86,25 @@ module _ (s : List ℕ) {at end : ℕ} (f : Frame s at end) where
     unfolding paperInterior interiorFrom
     interior-given h d = rw d (entry-given interiorBody s f l (r .given h))
 
+-- a short entry whose divider ends within a word
+module _ (s : List ℕ) {v n : ℕ} (w : InWord (take (length s - 2) (drop 2 s)) v n) where
+  pub interior-in-word : {z : ℤ} {child : ℕ} → 16 ≤ length s → length s * 1 < 2 ^ 63 → (n ≡ 0 → ⊥) → getD s 1 0 ≡ 3 → getD s 0 0 ≡ 3 + (2 + n)
+      → z ≡ unzigzag v → child ≡ le 4 0 (take (length s - (2 + n)) (drop (2 + n) s)) → Fits w32 child
+      → paperInterior (D.Cell (record { «divider_rowid» = z; «child_page» = child }) (4 + (2 + n))) ≡ interiorFrom s
+  interior-in-word {child = child} l b some k e d p f =
+      let m = w .most in
+      let c = f .fits in
+      let size : getD s 0 0 ≡ 1 + n + 4 = e ∙ omega arith in
+      let short : 1 + n < 124 = omega arith in
+      let inside : 5 + (1 + n) ≤ length s = omega arith in
+      let at : 2 + n ≡ 1 + (1 + n) = omega arith in
+      let end : 4 + (2 + n) ≡ 5 + (1 + n) = omega arith in
+      let body : 5 + (1 + n) - 1 ≡ 1 + n + 4 = omega arith in
+      let key = short-key s (1 + n) size short inside b 3 k (found-apart s 2 (w .found some)) some (omega arith) (omega arith) in
+      let page = short-page s (1 + n) size short inside b (rw at at p) f in
+      rw end
+      (interior-given s (short-frame s (1 + n) size short inside b) (omega arith) (rw body (divider-given _ key (omega arith) page)) (omega arith) d)
+
 -- ---- at a place
 module _ (s : List ℕ) (pos : ℕ) where
   pub interior-past : length s ≤ pos → paperInterior (D.Refused 1) ≡ interiorFrom (drop pos s)
@@ -108,6 +130,7 @@ pub ruleset dividers = (
   interior-unframed,
   interior-refused,
   interior-given,
+  interior-in-word,
   interior-past,
   interior-at,
 )

@@ -56,7 +56,8 @@ fn divider_body(body: &[u8]) -> DividerWords
     }
 }
 
-fn decode_from(s: &[u8]) -> DecodedInterior
+// The plain way: the frame, then the body.
+fn plain_from(s: &[u8]) -> DecodedInterior
     ensures { λ r. ⌜ paperInterior r ≡ interiorFrom (now (s .entry)) ⌝ }
 {
     let framed = cell::inner::frame(s);
@@ -76,6 +77,30 @@ fn decode_from(s: &[u8]) -> DecodedInterior
         },
         end,
     )
+}
+
+fn decode_from(s: &[u8]) -> DecodedInterior
+    ensures { λ r. ⌜ paperInterior r ≡ interiorFrom (now (s .entry)) ⌝ }
+{
+    // Where the longest cell has room and the divider ends within a word, no byte is looked at twice. Anything else goes the plain way.
+    if 16 <= s.len() {
+        let divider = varint::inner::in_word(&s[2..]);
+        let at = 2 + divider.taken;
+        if divider.taken != 0 {
+            if s[1] == cell::KIND_INTERIOR {
+                if s[0] == (3 + at) as u8 {
+                    return DecodedInterior::Cell(
+                        InteriorCell {
+                            divider_rowid: varint::zigzag_decode(divider.value),
+                            child_page: field::inner::u32_at(&s[at..]),
+                        },
+                        4 + at,
+                    );
+                }
+            }
+        }
+    }
+    plain_from(s)
 }
 
 // Reads the interior cell at `pos`.

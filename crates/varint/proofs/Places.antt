@@ -1,11 +1,12 @@
 -- A number at a place, in two words, and the place behind it, in one: made by the code here, and used by callers.
 -- Assumes nothing.
-use mathlib.Core.Path.{_≡_, refl, sym, _∙_}
+use mathlib.Core.Path.{_≡_, refl, sym, _∙_, ap}
 use mathlib.Core.List.{List}
 use Prim.Native.Nat.{ℕ, _+_, _-_, _*_, _%_, _^_, _≤_, _<_}
 use native.Mathlib.Omega.{arith}
 use lib.IntN.{ℤ}
 use lib.ListN.{length, take, drop, getD, length-drop}
+use lib.Seq.{take-add, drop-at, drop-drop, length-take-le}
 use borrow.Author.Tests.{lt-ltb, le-ltb, ne-eqb}
 use Rattle.paper.specs.Answer.{Answer, gives, refuses, andThen, pick}
 use Rattle.paper.specs.Coded.{Coded}
@@ -16,7 +17,7 @@ use Rattle.varint.specs.Number.{readI64}
 use Rattle.varint.specs.Zigzag.{unzigzag}
 use Rattle.varint.specs.Paper.{paperU64}
 use Rattle.varint.specs.Scan.{Going, Found, FoundAt, scanned}
-use Rattle.varint.proofs.Laws.{read-is}
+use Rattle.varint.proofs.Laws.{read-is, read-take}
 use Rattle.varint.proofs.Reading.{read-past, read-byte, going-second, scanned-at}
 
 -- ---- made
@@ -58,6 +59,23 @@ module _ (s : List ℕ) (pos : ℕ) {v n : ℕ} (f : FoundAt s pos v n) where
         let i : n ≤ length s - pos = rw (length-drop pos s) at (w .inside) in
         let o : 1 ≤ n = w .some in
         omega arith
+
+-- ---- in a part
+
+-- what a part of at + k bytes holds from place at on
+pub part-rest : (s : List ℕ) (from at k : ℕ) → from + at ≤ length s → drop at (take (at + k) (drop from s)) ≡ take k (drop (from + at) s)
+part-rest s from at k l =
+    let n : length (take at (drop from s)) ≡ at = length-take-le at (drop from s) (rw (length-drop from s) (omega arith)) in
+    rw (take-add at k (drop from s), drop-at (take at (drop from s)) (take k (drop at (drop from s))) at n, drop-drop at from s)
+
+-- a number whose bytes lie in the part is the same there
+pub found-inside : (s : List ℕ) (from at k : ℕ) {v n : ℕ} → FoundAt s (from + at) v n → (n ≡ 0 → ⊥) → n ≤ 10 → n ≤ k
+    → FoundAt (take (at + k) (drop from s)) at v n
+unfolding readU64
+found-inside s from at k f z l h =
+    let i = at-inside s (from + at) f z l in
+    let e = at-value s (from + at) f z l in
+    record { same = f .same ∙ sym e ∙ rw (part-rest s from at k (omega arith)) (sym (read-take (drop (from + at) s) (sym e) k h)) }
 
 -- ---- signed: the same bytes, then ZigZag
 module _ (s : List ℕ) (pos : ℕ) where
