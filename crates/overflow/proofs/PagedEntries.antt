@@ -2,19 +2,21 @@
 -- Assumes nothing.
 use mathlib.Core.Path.{_≡_}
 use mathlib.Core.List.{List}
-use Prim.Native.Nat.{ℕ, _-_, _^_, _≤_, _<_}
+use Prim.Native.Nat.{ℕ, _+_, _-_, _*_, _^_, _≤_, _<_}
 use native.Mathlib.Nat.{le-of-eq}
 use lib.IntN.{ℤ}
 use lib.ListN.{length, take, drop, length-drop}
 use lib.Seq.{take-all}
+use mir.Syntax.{w32}
+use mir.Val.{Fits}
 use borrow.Author.Tests.{eq-eqb, ne-eqb}
 use Rattle.paper.proofs.Laws.{paper}
 use Rattle.paper.specs.Answer.{Answer, andThen, pick}
 use Rattle.cell.specs.Entry.{peekKind}
 use Rattle.cell.specs.Local.{headFrom}
 use Rattle.cell.specs.Paper.{paperKind, paperHead}
-use Rattle.cell.specs.Words.{Frame}
-use Rattle.cell.proofs.Heads.{frame-number, frame-starts, frame-ends}
+use Rattle.field.specs.Field.{le}
+use Rattle.varint.specs.Word.{InWord}
 use Rattle.varint.specs.Zigzag.{unzigzag}
 use Rattle.cell.specs.declared.Head.{Head}
 use Rattle.cell.specs.declared.Decoded.{Decoded}
@@ -24,9 +26,10 @@ use Rattle.cell.specs.declared.PeekedKind.the-variants as K
 use Rattle.overflow.specs.Reference.{referenceFrom}
 use Rattle.overflow.specs.Paged.{Paged, localPaged, referencePaged, pagedFrom}
 use Rattle.overflow.specs.Paper.{paperRef, paperPaged}
-use Rattle.overflow.specs.Words.{Refers}
-use Rattle.overflow.proofs.References.{reference-unframed, reference-refused, reference-given, reference-past, refers-number, refers-fits}
+use Rattle.overflow.specs.Words.{Placed}
+use Rattle.overflow.proofs.References.{reference-in-word, reference-past}
 use Rattle.overflow.specs.declared.OverflowRef.{OverflowRef}
+use Rattle.overflow.specs.declared.DecodedRef.{DecodedRef}
 use Rattle.overflow.specs.declared.DecodedRef.the-variants as D
 use Rattle.overflow.specs.declared.PagedEntry.the-variants as P
 
@@ -48,18 +51,22 @@ module _ (s : List ℕ) where
   unfolding paperRef paperPaged referencePaged andThen
   as-overflow h n e = rw (← e)
 
-  module _ {at end : ℕ} (f : Frame s at end) where
-    pub paged-unframed : {k : ℕ} → 2 ^ 63 ≤ end → k ≡ 2 ^ 64 - 1 - end → paperPaged (P.Refused k) ≡ referencePaged s
-    paged-unframed {k} l e = as-refused k (reference-unframed s f l e)
+  -- from the answer of the plain way
+  module _ {r : DecodedRef} (e : paperRef r ≡ referenceFrom s) where
+    pub paged-plain : {h : OverflowRef} {n : ℕ} → r ≡ D.Reference h n → paperPaged (P.Overflow h n) ≡ referencePaged s
+    paged-plain {h} {n} d = as-overflow h n (rw d at e)
 
-    module _ (l : end < 2 ^ 63) {rowid total page : ℕ} (r : Refers (take (end - at) (drop at s)) rowid total page) where
-      pub paged-refused : {k : ℕ} → 2 ^ 63 ≤ page → k ≡ 2 ^ 64 - 1 - page → paperPaged (P.Refused k) ≡ referencePaged s
-      paged-refused {k} h d = as-refused k (reference-refused s f l r h d)
+    pub paged-plain-refused : {k : ℕ} → r ≡ D.Refused k → paperPaged (P.Refused k) ≡ referencePaged s
+    paged-plain-refused {k} d = as-refused k (rw d at e)
 
-      pub paged-given : {z : ℤ} → page < 2 ^ 63 → z ≡ unzigzag rowid
-          → paperPaged (P.Overflow (record { rowid = z; «total_body_len» = total; «first_overflow_page» = page }) end) ≡ referencePaged s
-      paged-given {z} h d =
-          as-overflow (record { rowid = z; «total_body_len» = total; «first_overflow_page» = page }) end (reference-given s f l r h d)
+  module _ {v n w m place : ℕ} (first : InWord (take (length s - 2) (drop 2 s)) v n)
+      (second : InWord (take (length s - (2 + n)) (drop (2 + n) s)) w m) (placed : Placed s n m place) where
+    pub paged-in-word : {z : ℤ} {page : ℕ} → 26 ≤ length s → length s * 1 < 2 ^ 63 → (place ≡ 0 → ⊥)
+        → z ≡ unzigzag v → page ≡ le 4 0 (take (length s - place) (drop place s)) → Fits w32 page
+        → paperPaged (P.Overflow (record { rowid = z; «total_body_len» = w; «first_overflow_page» = page }) (4 + place)) ≡ referencePaged s
+    paged-in-word {z} {page} l b some d p f =
+        as-overflow (record { rowid = z; «total_body_len» = w; «first_overflow_page» = page }) (4 + place)
+        (reference-in-word s first second placed l b some d p f)
 
 module _ (s : List ℕ) (pos : ℕ) where
   pub paged-past : length s ≤ pos → paperPaged (P.Refused 1) ≡ referencePaged (drop pos s)
@@ -90,14 +97,9 @@ pub ruleset paged = (
   paper,
   paged-local,
   paged-local-refused,
-  frame-number,
-  frame-starts,
-  frame-ends,
-  refers-number,
-  refers-fits,
-  paged-unframed,
-  paged-refused,
-  paged-given,
+  paged-plain,
+  paged-plain-refused,
+  paged-in-word,
   paged-past,
   paged-at,
   paged-no-kind,

@@ -11,14 +11,17 @@ ghost use Rattle.varint.specs.Paper.{paperWrote};
 ghost use Rattle.overflow.specs.Reference.{referenceFrom, writeReference};
 ghost use Rattle.overflow.specs.Paged.{pagedFrom, localPaged, referencePaged};
 ghost use Rattle.overflow.specs.Paper.{paperRef, paperPaged};
-ghost use Rattle.overflow.specs.Words.{Refers, referenceOf};
+ghost use Rattle.overflow.specs.Words.{Refers, Placed, referenceOf};
 use cell::Decoded;
 use cell::Head;
 use cell::PeekedKind;
 use cell::inner::NO_PLACE;
+use field::inner::u32_at;
 use paper::inner::number;
 use paper::inner::refusal;
 use varint::Wrote;
+use varint::inner::Scanned;
+use varint::inner::in_word;
 
 // The marker that stands in for a cell whose body lives in an overflow chain.
 pub struct OverflowRef {
@@ -79,7 +82,8 @@ fn reference_body(body: &[u8]) -> RefWords
     }
 }
 
-fn decode_from(s: &[u8]) -> DecodedRef
+// The plain way: the frame, then the body.
+fn plain_from(s: &[u8]) -> DecodedRef
     ensures { λ r. ⌜ paperRef r ≡ referenceFrom (now (s .entry)) ⌝ }
 {
     let framed = cell::inner::frame(s);
@@ -100,6 +104,50 @@ fn decode_from(s: &[u8]) -> DecodedRef
         },
         end,
     )
+}
+
+// The place of the page where the reference is short and both its numbers, as they stand behind one another, end within a word; 0 where
+// it is anything else.
+fn page_place(s: &[u8], rowid: Scanned, total: Scanned) -> usize
+    requires { ⌜ (26 ≤ length (now s)) × ((rowid .taken ≤ 8) × (total .taken ≤ 8)) ⌝ }
+    ensures { λ r. ⌜ Placed (now (s .entry)) (rowid .taken) (total .taken) r ⌝ }
+{
+    if rowid.taken == 0 {
+        return 0;
+    }
+    if total.taken == 0 {
+        return 0;
+    }
+    if s[1] != cell::KIND_OVERFLOW {
+        return 0;
+    }
+    let place = 2 + rowid.taken + total.taken;
+    if s[0] == (3 + place) as u8 {
+        return place;
+    }
+    0
+}
+
+fn decode_from(s: &[u8]) -> DecodedRef
+    ensures { λ r. ⌜ paperRef r ≡ referenceFrom (now (s .entry)) ⌝ }
+{
+    if 26 <= s.len() {
+        let rowid = in_word(&s[2..]);
+        let second = 2 + rowid.taken;
+        let total = in_word(&s[second..]);
+        let place = page_place(s, rowid, total);
+        if place != 0 {
+            return DecodedRef::Reference(
+                OverflowRef {
+                    rowid: varint::zigzag_decode(rowid.value),
+                    total_body_len: total.value,
+                    first_overflow_page: u32_at(&s[place..]),
+                },
+                4 + place,
+            );
+        }
+    }
+    plain_from(s)
 }
 
 // Reads the overflow reference at `pos`.
@@ -129,29 +177,32 @@ fn as_local(buf: &[u8], pos: usize) -> PagedEntry
     }
 }
 
-// As `decode_from`, and not through it: so each call that reads a reference has the frame laid out in it, and only the body's words go
-// through memory.
+// As `decode_from`, and not through it: so the quick part is laid out in each call that reads a reference, and only the plain way's
+// answer goes through memory.
 fn reference_from(s: &[u8]) -> PagedEntry
     ensures { λ r. ⌜ paperPaged r ≡ referencePaged (now (s .entry)) ⌝ }
 {
-    let framed = cell::inner::frame(s);
-    let at = framed.at;
-    let end = framed.end;
-    if NO_PLACE <= end {
-        return PagedEntry::Refused(number(end));
+    if 26 <= s.len() {
+        let rowid = in_word(&s[2..]);
+        let second = 2 + rowid.taken;
+        let total = in_word(&s[second..]);
+        let place = page_place(s, rowid, total);
+        if place != 0 {
+            return PagedEntry::Overflow(
+                OverflowRef {
+                    rowid: varint::zigzag_decode(rowid.value),
+                    total_body_len: total.value,
+                    first_overflow_page: u32_at(&s[place..]),
+                },
+                4 + place,
+            );
+        }
     }
-    let words = reference_body(&s[at..end]);
-    if NO_PLACE <= words.page {
-        return PagedEntry::Refused(number(words.page));
+    let plain = plain_from(s);
+    match plain {
+        DecodedRef::Reference(reference, bytes) => PagedEntry::Overflow(reference, bytes),
+        DecodedRef::Refused(k) => PagedEntry::Refused(k),
     }
-    PagedEntry::Overflow(
-        OverflowRef {
-            rowid: varint::zigzag_decode(words.rowid),
-            total_body_len: words.total,
-            first_overflow_page: words.page as u32,
-        },
-        end,
-    )
 }
 
 fn as_reference(buf: &[u8], pos: usize) -> PagedEntry
