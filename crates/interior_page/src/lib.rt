@@ -79,10 +79,10 @@ fn plain_from(s: &[u8]) -> DecodedInterior
     )
 }
 
+// Where the longest cell has room and the divider ends within a word, no byte is looked at twice. Anything else goes the plain way.
 fn decode_from(s: &[u8]) -> DecodedInterior
     ensures { λ r. ⌜ paperInterior r ≡ interiorFrom (now (s .entry)) ⌝ }
 {
-    // Where the longest cell has room and the divider ends within a word, no byte is looked at twice. Anything else goes the plain way.
     if 16 <= s.len() {
         let divider = varint::inner::in_word(&s[2..]);
         let at = 2 + divider.taken;

@@ -106,8 +106,8 @@ fn plain_from(s: &[u8]) -> DecodedRef
     )
 }
 
-// The place of the page where the reference is short and both its numbers, as they stand behind one another, end within a word; 0 where
-// it is anything else.
+// The place of the page, where both numbers were found within a word and the first bytes say that they and the page fill the body of a
+// reference; 0 where anything is otherwise.
 fn page_place(s: &[u8], rowid: Scanned, total: Scanned) -> usize
     requires { ⌜ (26 ≤ length (now s)) × ((rowid .taken ≤ 8) × (total .taken ≤ 8)) ⌝ }
     ensures { λ r. ⌜ Placed (now (s .entry)) (rowid .taken) (total .taken) r ⌝ }
@@ -128,6 +128,8 @@ fn page_place(s: &[u8], rowid: Scanned, total: Scanned) -> usize
     0
 }
 
+// Where the longest reference has room and its numbers end within a word each, no byte is looked at twice. Anything else goes the plain
+// way.
 fn decode_from(s: &[u8]) -> DecodedRef
     ensures { λ r. ⌜ paperRef r ≡ referenceFrom (now (s .entry)) ⌝ }
 {

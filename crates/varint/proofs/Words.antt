@@ -5,10 +5,10 @@ use mathlib.Core.Path.{_≡_, refl, sym, _∙_, ap, ap₂}
 use mathlib.Core.Bool.{Bool, true, false}
 use mathlib.Core.List.{List, [], _∷_}
 use Prim.Native.Nat.{ℕ, zero, suc, zero-le, suc-le-suc, _+_, _-_, _*_, _/_, _%_, _^_, _≤_, _<_}
-use native.Mathlib.Nat.{add-suc, le-of-suc-le-suc, mod-eq-of-lt, mod-lt}
+use native.Mathlib.Nat.{le-of-suc-le-suc, mod-eq-of-lt}
 use native.Mathlib.Omega.{arith}
-use lib.Bits.{bitAnd, bitXor, and-zero-r, and-le-l, and-block, and-mask, and-high, xor-block, xor-self, shifted-half, shifted-even}
-use lib.Count.{trailingZeros, under, trailing-le}
+use lib.Bits.{bitAnd, bitXor, and-le-l, and-block, and-mask, and-high, xor-block, xor-self, shifted-half, shifted-even}
+use lib.Count.{trailingZeros, trailing-le}
 use lib.Dec.{ltb}
 use lib.ListN.{length, getD}
 use lib.Pow.{pow-add}
@@ -285,14 +285,14 @@ module _ (a b c d e f g h : ℕ) (p : a < 128) (q : b < 128) (r : c < 128) (s : 
       ≡ (0 * 2 ^ 32 + ((g + 128 * h) * 2 ^ 16 + (e + 128 * f))) * 2 ^ 32 + ((c + 128 * d) * 2 ^ 16 + (a + 128 * b))
   twos-close =
       let x : a + 256 * (b + 256 * (c + 256 * (d + 256 * (e + 256 * (f + 256 * (g + 256 * (h + 256 * 0)))))))
-          ≡ (((0 * 2 ^ 16 + (h * 2 ^ 8 + g)) * 2 ^ 16 + (f * 2 ^ 8 + e)) * 2 ^ 16 + (d * 2 ^ 8 + c)) * 2 ^ 16 + (b * 2 ^ 8 + a) = omega arith in
+      ≡ (((0 * 2 ^ 16 + (h * 2 ^ 8 + g)) * 2 ^ 16 + (f * 2 ^ 8 + e)) * 2 ^ 16 + (d * 2 ^ 8 + c)) * 2 ^ 16 + (b * 2 ^ 8 + a) = omega arith in
       let o : bitAnd ((((0 * 2 ^ 16 + (h * 2 ^ 8 + g)) * 2 ^ 16 + (f * 2 ^ 8 + e)) * 2 ^ 16 + (d * 2 ^ 8 + c)) * 2 ^ 16 + (b * 2 ^ 8 + a)) 0x7F00_7F00_7F00_7F00
-          ≡ (((0 * 2 ^ 16 + h * 2 ^ 8) * 2 ^ 16 + f * 2 ^ 8) * 2 ^ 16 + d * 2 ^ 8) * 2 ^ 16 + b * 2 ^ 8
+      ≡ (((0 * 2 ^ 16 + h * 2 ^ 8) * 2 ^ 16 + f * 2 ^ 8) * 2 ^ 16 + d * 2 ^ 8) * 2 ^ 16 + b * 2 ^ 8
       = odd-byte a b (((0 * 2 ^ 16 + (h * 2 ^ 8 + g)) * 2 ^ 16 + (f * 2 ^ 8 + e)) * 2 ^ 16 + (d * 2 ^ 8 + c)) 0x7F00_7F00_7F00 p q
       ∙ ap (λ (x : ℕ). x * 2 ^ 16 + b * 2 ^ 8)
-        (odd-byte c d ((0 * 2 ^ 16 + (h * 2 ^ 8 + g)) * 2 ^ 16 + (f * 2 ^ 8 + e)) 0x7F00_7F00 r s
-        ∙ ap (λ (x : ℕ). x * 2 ^ 16 + d * 2 ^ 8)
-          (odd-byte e f (0 * 2 ^ 16 + (h * 2 ^ 8 + g)) 0x7F00 t u ∙ ap (λ (x : ℕ). x * 2 ^ 16 + f * 2 ^ 8) (odd-byte g h 0 0 v w))) in
+      (odd-byte c d ((0 * 2 ^ 16 + (h * 2 ^ 8 + g)) * 2 ^ 16 + (f * 2 ^ 8 + e)) 0x7F00_7F00 r s
+      ∙ ap (λ (x : ℕ). x * 2 ^ 16 + d * 2 ^ 8)
+      (odd-byte e f (0 * 2 ^ 16 + (h * 2 ^ 8 + g)) 0x7F00 t u ∙ ap (λ (x : ℕ). x * 2 ^ 16 + f * 2 ^ 8) (odd-byte g h 0 0 v w))) in
       rw (x, o) (omega arith)
 
   bytes-close : eightOf (foursOf (twosOf (a + 256 * (b + 256 * (c + 256 * (d + 256 * (e + 256 * (f + 256 * (g + 256 * (h + 256 * 0))))))))))

@@ -1,5 +1,5 @@
-// The scan that reads a number, and reading for loops in which most numbers are one byte. What asks something of its caller
-// stands here.
+// The scan that reads a number, reading by words of eight bytes, and reading for loops in which most numbers are one byte. What asks
+// something of its caller stands here.
 ghost use mathlib.Core.Path.{_≡_};
 ghost use Prim.Native.Nat.{_+_, _*_, _%_, _^_, _<_, _≤_};
 ghost use lib.ListN.{length, getD};
@@ -104,6 +104,7 @@ pub fn end_at(buf: &[u8], pos: usize) -> usize
 
 // The high bit of each byte of a word, and the low seven bits.
 const HIGH: u64 = 0x8080_8080_8080_8080;
+
 const LOW: u64 = 0x7F7F_7F7F_7F7F_7F7F;
 
 // Eight groups of seven bits, one in each byte, with the gaps between them closed: in twos, in fours, in eights.
