@@ -5,12 +5,14 @@ ghost use mathlib.Core.Path.{_≡_};
 ghost use Prim.Native.Nat.{_+_, _/_, _-_, _^_, _≤_, _<_};
 ghost use lib.ListN.{length};
 ghost use Rattle.paper.specs.Coded.{Coded};
+ghost use Rattle.varint.specs.Scan.{FoundAt};
 ghost use Rattle.cell.specs.Block.{isNull, bitmapBytes};
 ghost use Rattle.cell.specs.Words.{fixedEnd, textEnd, vectorEnd, blockEnd, columnEnd, columnsEnd, bodyEnd, RowidAt, Frame, Locally};
 use crate::KIND_LOCAL;
 use crate::tag;
 use paper::inner::refusal;
 use paper::inner::wide;
+use varint::inner::Scanned;
 
 // Words from here on are refusals.
 pub const NO_PLACE: usize = 0x8000_0000_0000_0000;
@@ -219,11 +221,11 @@ pub struct Framed {
     pub end: usize,
 }
 
-// The frame of the entry at the start of `s`: its length, and a body that lies inside (3).
-pub fn frame(s: &[u8]) -> Framed
+// The frame of the entry at the start of `s`: its length, which the caller has read, and a body that lies inside (3).
+pub fn frame_of(s: &[u8], len: Scanned) -> Framed
+    requires { ⌜ FoundAt (now s) 0 (len .value) (len .taken) ⌝ }
     ensures { λ r. ⌜ Frame (now (s .entry)) (r .at) (r .end) ⌝ }
 {
-    let len = varint::inner::value_at(s, 0);
     if len.taken == 0 {
         return Framed {
             at: 0,
@@ -245,4 +247,10 @@ pub fn frame(s: &[u8]) -> Framed
         };
     }
     Framed { at, end: at + size }
+}
+
+pub fn frame(s: &[u8]) -> Framed
+    ensures { λ r. ⌜ Frame (now (s .entry)) (r .at) (r .end) ⌝ }
+{
+    frame_of(s, varint::inner::value_at(s, 0))
 }

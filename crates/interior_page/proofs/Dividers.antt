@@ -18,7 +18,7 @@ use Rattle.varint.specs.Leb.{readFrom, taken}
 use Rattle.varint.specs.Word.{InWord}
 use Rattle.varint.specs.Zigzag.{unzigzag}
 use Rattle.varint.proofs.Reading.{going-start}
-use Rattle.varint.proofs.Places.{found-apart}
+use Rattle.varint.proofs.Places.{found-apart, found-start}
 use Rattle.cell.specs.Entry.{framed, entry}
 use Rattle.cell.specs.Keyed.{Keyed, PageWord}
 use Rattle.cell.specs.Words.{Frame}
@@ -118,6 +118,7 @@ pub ruleset dividers = (
   paper,
   going-start,
   found-apart,
+  found-start,
   divider-empty,
   divider-unkeyed,
   key-inside,

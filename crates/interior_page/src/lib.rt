@@ -56,11 +56,12 @@ fn divider_body(body: &[u8]) -> DividerWords
     }
 }
 
-// The plain way: the frame, then the body.
+// The plain way: the frame, then the body. Both numbers are scanned here and not by a call, since a call would have the quick way save
+// registers for it.
 fn plain_from(s: &[u8]) -> DecodedInterior
     ensures { λ r. ⌜ paperInterior r ≡ interiorFrom (now (s .entry)) ⌝ }
 {
-    let framed = cell::inner::frame(s);
+    let framed = cell::inner::frame_of(s, varint::inner::scan(s, 0, 0));
     let at = framed.at;
     let end = framed.end;
     if NO_PLACE <= end {

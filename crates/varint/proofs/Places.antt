@@ -21,6 +21,10 @@ use Rattle.varint.proofs.Laws.{read-is, read-take}
 use Rattle.varint.proofs.Reading.{read-past, read-byte, going-second, scanned-at}
 
 -- ---- made
+pub found-start : (s : List ℕ) {v n : ℕ} → Found s v n → FoundAt s 0 v n
+unfolding readU64
+found-start s f = record { same = f .same }
+
 module _ (s : List ℕ) (pos : ℕ) where
   pub found-past : length s ≤ pos → FoundAt s pos 0 0
   unfolding scanned pick paperU64

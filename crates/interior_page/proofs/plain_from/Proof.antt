@@ -9,6 +9,7 @@ plain-from-spec =
     (tie.spec
     (λ c κs. search dividers)
     (λ c κs. search dividers)
+    (λ c κs. search dividers)
     (λ c. search dividers)
     (λ c. search dividers)
     (λ c. search dividers)
