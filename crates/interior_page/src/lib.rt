@@ -80,7 +80,8 @@ fn plain_from(s: &[u8]) -> DecodedInterior
     )
 }
 
-// Where the longest cell has room and the divider ends within a word, no byte is looked at twice. Anything else goes the plain way.
+// Where the longest cell has room and the divider ends within a word, each part is read at its place and no byte of the divider is
+// branched on. Anything else goes the plain way.
 fn decode_from(s: &[u8]) -> DecodedInterior
     ensures { λ r. ⌜ paperInterior r ≡ interiorFrom (now (s .entry)) ⌝ }
 {

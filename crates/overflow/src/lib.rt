@@ -128,8 +128,8 @@ fn page_place(s: &[u8], rowid: Scanned, total: Scanned) -> usize
     0
 }
 
-// Where the longest reference has room and its numbers end within a word each, no byte is looked at twice. Anything else goes the plain
-// way.
+// Where the longest reference has room and each number ends within a word, each part is read at its place and no byte of a number is
+// branched on. Anything else goes the plain way.
 fn decode_from(s: &[u8]) -> DecodedRef
     ensures { λ r. ⌜ paperRef r ≡ referenceFrom (now (s .entry)) ⌝ }
 {

@@ -317,9 +317,6 @@ closes-up x = record { same = λ s e. rw e (bytes-close _ _ _ _ _ _ _ _ (low s 0
 pub half-below : (x m : ℕ) → bitAnd x m / 2 ≤ x
 half-below x m = let l = and-le-l x m in omega arith
 
-pub part-below : (x m : ℕ) → bitAnd x m ≤ x
-part-below x m = and-le-l x m
-
 module _ (x : ℕ) (f : Fits w64 x) where
   fours-below : foursOf (twosOf x) < 2 ^ 64
   fours-below =
@@ -342,4 +339,4 @@ zeros-fit x = record { fits = omega (arith, trailing-le 64 x) }
 pub zeros-bytes : (x : ℕ) → Fits w64 (trailingZeros 64 x + 1)
 zeros-bytes x = record { fits = omega (arith, trailing-le 64 x) }
 
-pub ruleset words = (paper, half-below, part-below, fours-fit, upper-fits, eight-fits, zeros-fit, zeros-bytes, closes-up, word-open, word-found)
+pub ruleset words = (paper, half-below, and-le-l, fours-fit, upper-fits, eight-fits, zeros-fit, zeros-bytes, closes-up, word-open, word-found)
