@@ -54,7 +54,7 @@ fn data_used(kind: u8, word: u64) -> usize
 fn varint_len(value: u64) -> usize
     ensures { λ r. ⌜ (r ≡ length (lebBytes value)) × (r ≤ 10) ⌝ }
 {
-    varint::u64_len(value)
+    varint::inner::len_by_digits(value)
 }
 
 fn block_len(kind: u8, word: u64) -> usize

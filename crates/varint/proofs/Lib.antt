@@ -1,5 +1,6 @@
 pub mod Reading
 pub mod Limits
+pub mod Digits
 pub mod Writing
 pub mod Signed
 pub mod Laws

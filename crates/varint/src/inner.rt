@@ -129,3 +129,12 @@ pub fn put_u64(out: &mut [u8], value: u64) -> usize
     out[i] = v as u8;
     i + 1
 }
+
+// The bytes of `value`, by its binary digits: a byte holds seven of them, and nine sixty-fourths are near enough to a seventh.
+// It asks no limit of the table, so that a loop over numbers of all sizes has no guess to make.
+pub fn len_by_digits(value: u64) -> usize
+    ensures { λ r. ⌜ r ≡ lenU64 value ⌝ }
+{
+    let digits = 64 - u64::leading_zeros(value | 1) as usize;
+    (9 * digits + 64) / 64
+}
