@@ -111,9 +111,8 @@ module _ (s : List ℕ) (f : Bytes s) (a b c d : ℕ) (ea : a ≡ le 8 0 s)
   later : (k w : ℕ) → w ≡ le 8 0 (onward k s) → bitAnd w HIGH ≡ 0 → Ascii 8 (drop k s)
   later k w e = word-ascii (drop k s) (λ i. rw getD-drop (f (k + i))) w (e ∙ ap (le 8 0) (onward-is k s))
 
-  pub plain4-ascii : eqb (bitAnd (bitOr (bitOr (bitOr a b) c) d) HIGH) 0 ≡ true → Ascii 32 s
-  plain4-ascii t =
-      let abcd = eqb-true (bitAnd (bitOr (bitOr (bitOr a b) c) d) HIGH) 0 t in
+  pub four-ascii : bitAnd (bitOr (bitOr (bitOr a b) c) d) HIGH ≡ 0 → Ascii 32 s
+  four-ascii abcd =
       let abc = left (bitOr (bitOr a b) c) d abcd in
       let ab = left (bitOr a b) c abc in
       more 24 8 s
@@ -121,6 +120,12 @@ module _ (s : List ℕ) (f : Bytes s) (a b c d : ℕ) (ea : a ≡ le 8 0 s)
       (more 8 8 s (word-ascii s f a ea (left a b ab)) (later 8 b eb (right a b ab)))
       (later 16 c ec (right (bitOr a b) c abc)))
       (later 24 d ed (right (bitOr (bitOr a b) c) d abcd))
+
+pub plain8-ascii : (s : List ℕ) (a b : ℕ) → (bitAnd a HIGH ≡ 0 → Ascii 32 s) → (bitAnd b HIGH ≡ 0 → Ascii 32 (onward 32 s))
+    → eqb (bitAnd (bitOr a b) HIGH) 0 ≡ true → Ascii 64 s
+plain8-ascii s a b f g t =
+    let e = eqb-true (bitAnd (bitOr a b) HIGH) 0 t in
+    more 32 32 s (f (left a b e)) (rw (onward-is 32 s) at (g (right a b e)))
 
 -- ---- ASCII is passed over
 

@@ -2,6 +2,7 @@
 ghost use mathlib.Core.Path.{_≡_};
 ghost use mathlib.Core.Bool.{true};
 ghost use Prim.Native.Nat.{_%_, _≤_, _<_};
+ghost use lib.Bits.{bitAnd};
 ghost use lib.ListN.{length, drop};
 ghost use Rattle.utf8.specs.WellFormed.{wellFormed};
 ghost use Rattle.utf8.specs.Machine.{State, Moves, Reads, Alike, Chart, Line, Packs};
@@ -21,12 +22,20 @@ fn plain(s: &[u8]) -> bool
     u64_at(s) & HIGH == 0
 }
 
-// Four words.
-fn plain4(s: &[u8]) -> bool
+// The bits of four words together.
+fn four_words(s: &[u8]) -> u64
     requires { ⌜ 32 ≤ length (now s) ⌝ }
-    ensures { λ r. ⌜ (r ≡ true → Ascii 32 (now (s .entry))) ⌝ }
+    ensures { λ r. ⌜ (bitAnd r 0x8080_8080_8080_8080 ≡ 0 → Ascii 32 (now (s .entry))) ⌝ }
 {
-    (u64_at(s) | u64_at(&s[8..]) | u64_at(&s[16..]) | u64_at(&s[24..])) & HIGH == 0
+    u64_at(s) | u64_at(&s[8..]) | u64_at(&s[16..]) | u64_at(&s[24..])
+}
+
+// Eight words.
+fn plain8(s: &[u8]) -> bool
+    requires { ⌜ 64 ≤ length (now s) ⌝ }
+    ensures { λ r. ⌜ (r ≡ true → Ascii 64 (now (s .entry))) ⌝ }
+{
+    (four_words(s) | four_words(&s[32..])) & HIGH == 0
 }
 
 // Passes over whole words of ASCII from this place on: at the place that it answers the text goes on as well-formed as at this one.
@@ -35,11 +44,11 @@ fn past_ascii(s: &[u8], from: usize) -> usize
     ensures { λ r. ⌜ Passed (now (s .entry)) from r ⌝ }
 {
     let mut i = from;
-    while 32 <= s.len() - i {
-        if !plain4(&s[i..]) {
+    while 64 <= s.len() - i {
+        if !plain8(&s[i..]) {
             break;
         }
-        i += 32;
+        i += 64;
     }
     while 8 <= s.len() - i {
         if !plain(&s[i..]) {

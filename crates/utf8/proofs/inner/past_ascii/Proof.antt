@@ -17,7 +17,7 @@ past-ascii-spec =
     (λ s from i₀ i. Passed s from i) (λ s from i₀ i. length s - i)
     (λ c. passed-none _ _ (search needs)) (λ c. search needs) (λ c. search needs) (λ c. search needs) (λ c. search needs)
     (λ c κs. search needs) (λ c. search needs) (λ c. search needs)
-    (λ c. passed-more 32 (c .before .before .before .before .loop .inv) (omega arith) _ (c .before .plain4 .ensures) (not-false _ (c .if1 .left)))
+    (λ c. passed-more 64 (c .before .before .before .before .loop .inv) (omega arith) _ (c .before .plain8 .ensures) (not-false _ (c .if1 .left)))
     (λ c. search needs) (λ c. search needs) (λ c. search needs) (λ c. search needs) (λ c. search needs) (λ c κs. search needs)
     (λ c. search needs) (λ c. search needs) (λ c. search needs)
     (λ c. passed-more 8 (c .before .before .before .before .loop2 .inv) (omega arith) _ (c .before .plain .ensures) (not-false _ (c .if2 .left)))
