@@ -6,7 +6,7 @@ ghost use lib.Bits.{bitAnd};
 ghost use lib.ListN.{length, drop};
 ghost use Rattle.utf8.specs.WellFormed.{wellFormed};
 ghost use Rattle.utf8.specs.Machine.{State, Moves, Reads, Alike, Chart, Line, Packs};
-ghost use Rattle.utf8.specs.Ascii.{Ascii, Passed};
+ghost use Rattle.utf8.specs.Ascii.{Ascii, Plain};
 use field::inner::u64_at;
 use paper::inner::wide;
 
@@ -38,10 +38,10 @@ fn plain8(s: &[u8]) -> bool
     (four_words(s) | four_words(&s[32..])) & HIGH == 0
 }
 
-// Passes over whole words of ASCII from this place on: at the place that it answers the text goes on as well-formed as at this one.
+// Passes over whole words of ASCII from this place on.
 fn past_ascii(s: &[u8], from: usize) -> usize
     requires { ⌜ from ≤ length (now s) ⌝ }
-    ensures { λ r. ⌜ Passed (now (s .entry)) from r ⌝ }
+    ensures { λ r. ⌜ Plain (now (s .entry)) from r ⌝ }
 {
     let mut i = from;
     while 64 <= s.len() - i {
@@ -241,4 +241,25 @@ pub fn accepted(s: &[u8]) -> bool
         return few(s, i);
     }
     rest(s, i)
+}
+
+// Whether all of it is ASCII.
+pub fn all_ascii(s: &[u8]) -> bool
+    ensures { λ r. ⌜ (r ≡ true → Plain (now (s .entry)) 0 (length (now (s .entry)))) ⌝ }
+{
+    let mut i = past_ascii(s, 0);
+    if 8 <= s.len() - i {
+        return false;
+    }
+    if 8 <= s.len() {
+        let last = s.len() - 8;
+        return plain(&s[last..]);
+    }
+    while i < s.len() {
+        if 0x80 <= s[i] {
+            return false;
+        }
+        i += 1;
+    }
+    true
 }
