@@ -13,6 +13,7 @@ pub mod Nulls
 pub mod Putting
 pub mod Judging
 pub mod Measuring
+pub mod QuickMeasuring
 pub mod Listed
 pub mod Writing
 pub mod KeyWriting

@@ -2,7 +2,7 @@
 ghost use mathlib.Core.Path.{_≡_};
 ghost use mathlib.Core.List.{[], _∷_, _++_};
 ghost use Prim.Native.Nat.{_+_, _*_, _/_, _^_, _≤_, _<_};
-ghost use lib.Dec.{eqb};
+ghost use lib.Dec.{ltb, eqb};
 ghost use lib.ListN.{length, take, drop, getD};
 ghost use Rattle.paper.specs.Answer.{over, pick, put, sizeOf};
 ghost use Rattle.varint.specs.Leb.{lebBytes};
@@ -11,8 +11,10 @@ ghost use Rattle.cell.specs.Block.{bitmapBytes};
 ghost use Rattle.cell.specs.Written.{blockBytes, blocksBytes, encoded, writeCell};
 ghost use Rattle.cell.specs.ValueList.{items};
 ghost use Rattle.utf8.specs.WellFormed.{checkText};
-ghost use Rattle.cell.specs.Listing.{wordList, used, held, payload, blockLen, usedAll, heldAll, kindBit, kindBits, kindMap, judged, Judged, blocksLen, headOf, columnsOf, bodyOf, bodySize, Good, Measures};
+ghost use Rattle.utf8.specs.Ascii.{Plain};
+ghost use Rattle.cell.specs.Listing.{wordList, used, held, payload, blockLen, usedAll, heldAll, kindBit, kindBits, kindMap, judged, Judged, Common, Strange, Beyond, Flaw, Quick, blocksLen, headOf, columnsOf, bodyOf, bodySize, Good, Measures};
 use crate::KIND_LOCAL;
+use crate::inner::NO_PLACE;
 use crate::inner::bitmap_bytes;
 use crate::tag;
 
@@ -134,8 +136,8 @@ struct Measured {
     bytes: usize,
 }
 
-// The value blocks of all columns.
-fn measure_blocks(kinds: &[u8], words: &[u8], data: &[u8]) -> Measured
+// The value blocks of all columns, column by column.
+fn plain_blocks(kinds: &[u8], words: &[u8], data: &[u8]) -> Measured
     requires { ⌜ length (now kinds) ≡ length (now words) / 8 ⌝ }
     requires { ⌜ length (now kinds) ≤ 65536 ⌝ }
     requires { ⌜ length (now «data») ≤ 16777216 ⌝ }
@@ -163,6 +165,111 @@ fn measure_blocks(kinds: &[u8], words: &[u8], data: &[u8]) -> Measured
         };
     }
     Measured { refusal: 0, bytes }
+}
+
+// ---- the first reading, quick: no step hangs on a column's kind, so that nulls at random are not guessed wrong
+
+// The value where the kind is this one, and 0 elsewhere.
+fn where_kind(kind: u8, wanted: u8, value: u64) -> u64
+    ensures { λ r. ⌜ r ≡ pick (eqb kind wanted) value 0 ⌝ }
+{
+    if kind == wanted { value } else { 0 }
+}
+
+// 0 for a null, and for the kinds before the vector.
+fn strange_kind(kind: u8) -> u64
+    ensures { λ r. ⌜ Strange kind r ⌝ }
+{
+    if std::num::wrapping_add_u8(kind, 1) < 5 {
+        0
+    } else {
+        1
+    }
+}
+
+// 0 where so many bytes are left.
+fn beyond(size: u64, left: usize) -> u64
+    ensures { λ r. ⌜ Beyond size left r ⌝ }
+{
+    if left < size as usize { 1 } else { 0 }
+}
+
+// 0 where the column is good, if what is left of the data is ASCII.
+fn flaw(kind: u8, word: u64, left: usize) -> u64
+    ensures { λ r. ⌜ Flaw kind word left r ⌝ }
+{
+    strange_kind(kind)
+        | where_kind(kind, NULL, word)
+        | where_kind(kind, tag::BOOL, word / 2)
+        | beyond(where_kind(kind, tag::TEXT, word), left)
+}
+
+// The tag, and the first byte behind it.
+fn first_bytes(kind: u8) -> usize
+    ensures { λ r. ⌜ (r ≡ pick (ltb kind 4) 2 0) × (r ≤ 2) ⌝ }
+{
+    if kind < 4 { 2 } else { 0 }
+}
+
+// The other bytes of a real.
+fn real_bytes(kind: u8) -> usize
+    ensures { λ r. ⌜ (r ≡ pick (eqb kind 1) 7 0) × (r ≤ 7) ⌝ }
+{
+    if kind == tag::REAL { 7 } else { 0 }
+}
+
+// As `block_len`. A number has one byte at least, which is counted with the tag.
+fn quick_len(kind: u8, word: u64) -> usize
+    requires { ⌜ Common kind × (used kind word ≤ 16777216) ⌝ }
+    ensures { λ r. ⌜ (r ≡ blockLen kind word) × (r ≤ 11 + used kind word) ⌝ }
+{
+    let text = where_kind(kind, tag::TEXT, word);
+    let number = where_kind(kind, tag::INTEGER, varint::inner::zigzag_bits(word)) | text;
+    first_bytes(kind) + real_bytes(kind) + (varint_len(number) - 1) + text as usize
+}
+
+// The value blocks of all columns, or 2^63 where it is not known.
+fn quick_blocks(kinds: &[u8], words: &[u8], data: &[u8]) -> usize
+    requires { ⌜ length (now kinds) ≡ length (now words) / 8 ⌝ }
+    requires { ⌜ length (now kinds) ≤ 65536 ⌝ }
+    requires { ⌜ length (now «data») ≤ 16777216 ⌝ }
+    requires { ⌜ Plain (now «data») 0 (length (now «data»)) ⌝ }
+    ensures { λ r. ⌜ Quick (blocksLen (items (now (kinds .entry)) (wordList (now (words .entry))) (now («data» .entry)))) r ⌝ }
+{
+    let mut i: usize = 0;
+    let mut from: usize = 0;
+    let mut bytes: usize = 0;
+    while i < kinds.len() {
+        let kind = kinds[i];
+        let word = word_at(words, i);
+        if flaw(kind, word, data.len() - from) != 0 {
+            return NO_PLACE;
+        }
+        bytes += quick_len(kind, word);
+        from += where_kind(kind, tag::TEXT, word) as usize;
+        i += 1;
+    }
+    if from < data.len() {
+        return NO_PLACE;
+    }
+    bytes
+}
+
+// The value blocks of all columns. Where the quick reading does not know, the plain one tells.
+fn measure_blocks(kinds: &[u8], words: &[u8], data: &[u8]) -> Measured
+    requires { ⌜ length (now kinds) ≡ length (now words) / 8 ⌝ }
+    requires { ⌜ length (now kinds) ≤ 65536 ⌝ }
+    requires { ⌜ length (now «data») ≤ 16777216 ⌝ }
+    ensures { λ r. ⌜ judged (r .refusal) (r .bytes) ≡ blocksLen (items (now (kinds .entry)) (wordList (now (words .entry))) (now («data» .entry))) ⌝ }
+    ensures { λ r. ⌜ r .bytes ≤ 11 * 65536 + 16777216 ⌝ }
+{
+    if utf8::inner::all_ascii(data) {
+        let bytes = quick_blocks(kinds, words, data);
+        if bytes < NO_PLACE {
+            return Measured { refusal: 0, bytes };
+        }
+    }
+    plain_blocks(kinds, words, data)
 }
 
 // The whole list, and the length of the body that it makes with the rowid's ZigZag number.
