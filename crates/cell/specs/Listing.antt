@@ -1,6 +1,6 @@
 -- A value list, column by column, where it is good: what the steps of the writer say to each other. No public promise names these.
 use mathlib.Core.Path.{_≡_}
-use Prim.Native.Nat.{ℕ, zero, suc, _+_, _*_, _/_, _%_, _^_, _≤_, _<_}
+use Prim.Native.Nat.{ℕ, zero, suc, _+_, _-_, _*_, _/_, _%_, _^_, _≤_, _<_}
 use mathlib.Core.List.{List, [], _∷_, _++_}
 use lib.Dec.{ltb, eqb}
 use lib.ListN.{length, take, drop}
@@ -88,18 +88,17 @@ pub record Common (kind : ℕ) : Type 0 where
   pub byte : kind < 256
   pub near : (kind + 1) % 256 < 5
 
--- each number is 0 only where what it stands for holds
+-- 0 only for such a kind
 pub record Strange (kind r : ℕ) : Type 0 where
   pub none : r ≡ 0 → Common kind
 
-pub record Beyond (size left r : ℕ) : Type 0 where
-  pub none : r ≡ 0 → size ≤ left
+-- the largest word of such a kind, where so many bytes of data are left
+unfoldable pub largest : ℕ → ℕ → ℕ
+largest kind left = pick (eqb kind 255) 0 (pick (eqb kind 3) 1 (pick (eqb kind 2) left (2 ^ 64 - 1)))
 
-pub record Flaw (kind word left r : ℕ) : Type 0 where
-  pub common : r ≡ 0 → Common kind
-  pub null : r ≡ 0 → kind ≡ 255 → word ≡ 0
-  pub bool : r ≡ 0 → kind ≡ 3 → word ≤ 1
-  pub text : r ≡ 0 → kind ≡ 2 → word ≤ left
+-- the tag, and what follows it in any case: eight bytes of a real, one of a bool, the first of a number. Kinds are counted from the null
+unfoldable pub shortest : ℕ → ℕ
+shortest c = pick (eqb c 0) 0 (pick (eqb c 1) 2 (pick (eqb c 2) 9 (pick (eqb c 3) 2 (pick (eqb c 4) 2 0))))
 
 -- the length of all value blocks
 unfoldable pub blocksLen : Answer (List Content) → Answer ℕ

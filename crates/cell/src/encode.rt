@@ -2,7 +2,7 @@
 ghost use mathlib.Core.Path.{_≡_};
 ghost use mathlib.Core.List.{[], _∷_, _++_};
 ghost use Prim.Native.Nat.{_+_, _*_, _/_, _^_, _≤_, _<_};
-ghost use lib.Dec.{ltb, eqb};
+ghost use lib.Dec.{eqb};
 ghost use lib.ListN.{length, take, drop, getD};
 ghost use Rattle.paper.specs.Answer.{over, pick, put, sizeOf};
 ghost use Rattle.varint.specs.Leb.{lebBytes};
@@ -12,7 +12,7 @@ ghost use Rattle.cell.specs.Written.{blockBytes, blocksBytes, encoded, w
 ghost use Rattle.cell.specs.ValueList.{items};
 ghost use Rattle.utf8.specs.WellFormed.{checkText};
 ghost use Rattle.utf8.specs.Ascii.{Plain};
-ghost use Rattle.cell.specs.Listing.{wordList, used, held, payload, blockLen, usedAll, heldAll, kindBit, kindBits, kindMap, judged, Judged, Common, Strange, Beyond, Flaw, Quick, blocksLen, headOf, columnsOf, bodyOf, bodySize, Good, Measures};
+ghost use Rattle.cell.specs.Listing.{wordList, used, held, payload, blockLen, usedAll, heldAll, kindBit, kindBits, kindMap, judged, Judged, Common, Strange, largest, shortest, Quick, blocksLen, headOf, columnsOf, bodyOf, bodySize, Good, Measures};
 use crate::KIND_LOCAL;
 use crate::inner::NO_PLACE;
 use crate::inner::bitmap_bytes;
@@ -169,11 +169,11 @@ fn plain_blocks(kinds: &[u8], words: &[u8], data: &[u8]) -> Measured
 
 // ---- the first reading, quick: no step hangs on a column's kind, so that nulls at random are not guessed wrong
 
-// The value where the kind is this one, and 0 elsewhere.
-fn where_kind(kind: u8, wanted: u8, value: u64) -> u64
-    ensures { λ r. ⌜ r ≡ pick (eqb kind wanted) value 0 ⌝ }
+// One value where the kind is this one, another elsewhere.
+fn for_kind(kind: u8, wanted: u8, value: u64, other: u64) -> u64
+    ensures { λ r. ⌜ r ≡ pick (eqb kind wanted) value other ⌝ }
 {
-    if kind == wanted { value } else { 0 }
+    if kind == wanted { value } else { other }
 }
 
 // 0 for a null, and for the kinds before the vector.
@@ -187,45 +187,36 @@ fn strange_kind(kind: u8) -> u64
     }
 }
 
-// 0 where so many bytes are left.
-fn beyond(size: u64, left: usize) -> u64
-    ensures { λ r. ⌜ Beyond size left r ⌝ }
+// The largest word of a good column, where so many bytes of data are left.
+fn largest_word(kind: u8, left: usize) -> u64
+    ensures { λ r. ⌜ r ≡ largest kind left ⌝ }
 {
-    if left < size as usize { 1 } else { 0 }
+    let text = for_kind(kind, tag::TEXT, left as u64, 0xFFFF_FFFF_FFFF_FFFF);
+    for_kind(kind, NULL, 0, for_kind(kind, tag::BOOL, 1, text))
 }
 
-// 0 where the column is good, if what is left of the data is ASCII.
-fn flaw(kind: u8, word: u64, left: usize) -> u64
-    ensures { λ r. ⌜ Flaw kind word left r ⌝ }
+// The tag and what follows it in any case, by the kind counted from the null: one load.
+fn shortest_len(c: u8) -> usize
+    ensures { λ r. ⌜ (r ≡ shortest c) × (r ≤ 9) ⌝ }
 {
-    strange_kind(kind)
-        | where_kind(kind, NULL, word)
-        | where_kind(kind, tag::BOOL, word / 2)
-        | beyond(where_kind(kind, tag::TEXT, word), left)
+    match c {
+        0 => 0,
+        1 => 2,
+        2 => 9,
+        3 => 2,
+        4 => 2,
+        _ => 0,
+    }
 }
 
-// The tag, and the first byte behind it.
-fn first_bytes(kind: u8) -> usize
-    ensures { λ r. ⌜ (r ≡ pick (ltb kind 4) 2 0) × (r ≤ 2) ⌝ }
-{
-    if kind < 4 { 2 } else { 0 }
-}
-
-// The other bytes of a real.
-fn real_bytes(kind: u8) -> usize
-    ensures { λ r. ⌜ (r ≡ pick (eqb kind 1) 7 0) × (r ≤ 7) ⌝ }
-{
-    if kind == tag::REAL { 7 } else { 0 }
-}
-
-// As `block_len`. A number has one byte at least, which is counted with the tag.
+// As `block_len`, without the kinds that are strange. The first byte of a number is counted with the tag.
 fn quick_len(kind: u8, word: u64) -> usize
     requires { ⌜ Common kind × (used kind word ≤ 16777216) ⌝ }
     ensures { λ r. ⌜ (r ≡ blockLen kind word) × (r ≤ 11 + used kind word) ⌝ }
 {
-    let text = where_kind(kind, tag::TEXT, word);
-    let number = where_kind(kind, tag::INTEGER, varint::inner::zigzag_bits(word)) | text;
-    first_bytes(kind) + real_bytes(kind) + (varint_len(number) - 1) + text as usize
+    let text = for_kind(kind, tag::TEXT, word, 0);
+    let number = for_kind(kind, tag::INTEGER, varint::inner::zigzag_bits(word), text);
+    shortest_len(std::num::wrapping_add_u8(kind, 1)) + (varint_len(number) - 1) + text as usize
 }
 
 // The value blocks of all columns, or 2^63 where it is not known.
@@ -242,11 +233,14 @@ fn quick_blocks(kinds: &[u8], words: &[u8], data: &[u8]) -> usize
     while i < kinds.len() {
         let kind = kinds[i];
         let word = word_at(words, i);
-        if flaw(kind, word, data.len() - from) != 0 {
+        if strange_kind(kind) != 0 {
+            return NO_PLACE;
+        }
+        if largest_word(kind, data.len() - from) < word {
             return NO_PLACE;
         }
         bytes += quick_len(kind, word);
-        from += where_kind(kind, tag::TEXT, word) as usize;
+        from += for_kind(kind, tag::TEXT, word, 0) as usize;
         i += 1;
     }
     if from < data.len() {
