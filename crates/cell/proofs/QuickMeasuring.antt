@@ -4,9 +4,8 @@ use mathlib.Core.Path.{_≡_, refl, sym, subst, _∙_}
 use mathlib.Core.List.{List}
 use Prim.Native.Nat.{ℕ, zero, suc, _+_, _-_, _*_, _/_, _%_, _^_, _≤_, _<_}
 use native.Mathlib.Omega.{arith}
-use lib.Dec.{eqb}
+use lib.Dec.{ltb, eqb}
 use lib.ListN.{length, take, drop, getD}
-use borrow.Author.Tests.{ne-eqb}
 use mir.Syntax.{w8, w64}
 use mir.Val.{Fits, toZ}
 use Rattle.paper.proofs.Laws.{paper}
@@ -17,7 +16,7 @@ use Rattle.utf8.specs.Ascii.{Plain}
 use Rattle.utf8.specs.WellFormed.{checkText, wellFormed}
 use Rattle.utf8.proofs.Ascii.{plain-part}
 use Rattle.cell.specs.ValueList.{items}
-use Rattle.cell.specs.Listing.{wordList, used, blockLen, judged, Judged, Common, Strange, largest, shortest, Quick, blocksLen}
+use Rattle.cell.specs.Listing.{wordList, used, blockLen, judged, Judged, Common, Strange, largest, Quick, blocksLen}
 use Rattle.varint.proofs.Limits.{groups-some, groups-last}
 use Rattle.cell.proofs.Numbers.{leb-most}
 use Rattle.cell.proofs.Putting.{list-length}
@@ -61,31 +60,6 @@ module _ {rest : List ℕ} (p : Plain rest 0 (length rest)) (word from : ℕ) wh
       kind c l
 
 -- ---- lengths
-module _ (c : ℕ) where
-  pub shortest-null : c ≡ 0 → 0 ≡ shortest c
-  unfolding shortest pick
-  shortest-null k = rw k
-
-  pub shortest-integer : c ≡ 1 → 2 ≡ shortest c
-  unfolding shortest pick
-  shortest-integer k = rw k
-
-  pub shortest-real : c ≡ 2 → 9 ≡ shortest c
-  unfolding shortest pick
-  shortest-real k = rw k
-
-  pub shortest-text : c ≡ 3 → 2 ≡ shortest c
-  unfolding shortest pick
-  shortest-text k = rw k
-
-  pub shortest-bool : c ≡ 4 → 2 ≡ shortest c
-  unfolding shortest pick
-  shortest-bool k = rw k
-
-  pub shortest-other : (c ≡ 0 → ⊥) → (c ≡ 1 → ⊥) → (c ≡ 2 → ⊥) → (c ≡ 3 → ⊥) → (c ≡ 4 → ⊥) → 0 ≡ shortest c
-  unfolding shortest pick
-  shortest-other a b d e f = rw (ne-eqb c 0 a, ne-eqb c 1 b, ne-eqb c 2 d, ne-eqb c 3 e, ne-eqb c 4 f)
-
 pub number-some : (v : ℕ) {l : ℕ} → l ≡ length (lebBytes v) → 1 ≤ l
 unfolding lebBytes
 number-some v e = rw e (groups-some 9 v)
@@ -100,8 +74,8 @@ module _ (kind word : ℕ) (c : Common kind) where
   text-used {t} e =
       by-kind (λ k. t ≡ pick (eqb k 2) word 0 → t ≡ used k word) (λ e. e) (λ e. e) (λ e. e) (λ e. e) (λ e. e) kind c e
 
-  pub quick-fits : {f l t : ℕ} → f ≤ 9 → l ≤ 10 → t ≡ pick (eqb kind 2) word 0 → used kind word ≤ 16777216 → Fits w64 (f + (l - 1) + t)
-  quick-fits f l e u = record { fits = omega (arith, text-used e) }
+  pub quick-fits : {f s l t : ℕ} → f ≤ 2 → s ≤ 7 → l ≤ 10 → t ≡ pick (eqb kind 2) word 0 → used kind word ≤ 16777216 → Fits w64 (f + s + (l - 1) + t)
+  quick-fits f s l e u = record { fits = omega (arith, text-used e) }
 
   most : blockLen kind word ≤ 11 + used kind word
   unfolding blockLen used pick
@@ -109,24 +83,24 @@ module _ (kind word : ℕ) (c : Common kind) where
       by-kind (λ k. blockLen k word ≤ 11 + used k word)
       (omega (arith, leb-most (zigzag (toZ w64 word)))) (omega arith) (omega (arith, leb-most word)) (omega arith) (omega arith) kind c
 
-  module _ {d f a v t l : ℕ} (ed : d ≡ (kind + 1) % 2 ^ 8) (ef : f ≡ shortest d) (ev : v ≡ zigzag (toZ w64 word))
+  module _ {f s a v t l : ℕ} (ef : f ≡ pick (ltb kind 4) 2 0) (es : s ≡ pick (eqb kind 1) 7 0) (ev : v ≡ zigzag (toZ w64 word))
       (et : t ≡ pick (eqb kind 2) word 0) (ea : a ≡ pick (eqb kind 0) v t) (el : l ≡ length (lebBytes a)) where
     no-number : a ≡ t → t ≡ 0 → l ≡ 1
     no-number ea et = el ∙ rw (ea, et, zero-len)
 
-    pub quick-length : f + (l - 1) + t ≡ blockLen kind word
-    unfolding blockLen used shortest pick
+    pub quick-length : f + s + (l - 1) + t ≡ blockLen kind word
+    unfolding blockLen used pick
     quick-length =
         by-kind
-        (λ k. d ≡ (k + 1) % 2 ^ 8 → t ≡ pick (eqb k 2) word 0 → a ≡ pick (eqb k 0) v t → f + (l - 1) + t ≡ blockLen k word)
-        (λ ed et ea. let e : l ≡ length (lebBytes (zigzag (toZ w64 word))) = rw (ea, ev) at el in let g : f ≡ 2 = rw ed at ef in omega (arith, number-some (zigzag (toZ w64 word)) e))
-        (λ ed et ea. let g : f ≡ 9 = rw ed at ef in omega (arith, no-number ea et))
-        (λ ed et ea. let e : l ≡ length (lebBytes word) = rw (ea, et) at el in let g : f ≡ 2 = rw ed at ef in omega (arith, number-some word e))
-        (λ ed et ea. let g : f ≡ 2 = rw ed at ef in omega (arith, no-number ea et))
-        (λ ed et ea. let g : f ≡ 0 = rw ed at ef in omega (arith, no-number ea et))
-        kind c ed et ea
+        (λ k. f ≡ pick (ltb k 4) 2 0 → s ≡ pick (eqb k 1) 7 0 → t ≡ pick (eqb k 2) word 0 → a ≡ pick (eqb k 0) v t → f + s + (l - 1) + t ≡ blockLen k word)
+        (λ ef es et ea. let e : l ≡ length (lebBytes (zigzag (toZ w64 word))) = rw (ea, ev) at el in omega (arith, number-some (zigzag (toZ w64 word)) e))
+        (λ ef es et ea. omega (arith, no-number ea et))
+        (λ ef es et ea. let e : l ≡ length (lebBytes word) = rw (ea, et) at el in omega (arith, number-some word e))
+        (λ ef es et ea. omega (arith, no-number ea et))
+        (λ ef es et ea. omega (arith, no-number ea et))
+        kind c ef es et ea
 
-    pub quick-within : f + (l - 1) + t ≤ 11 + used kind word
+    pub quick-within : f + s + (l - 1) + t ≤ 11 + used kind word
     quick-within = rw quick-length most
 
 -- ---- the loop
@@ -188,12 +162,6 @@ pub ruleset quickly = (
   strange-none,
   strange-some,
   largest-is,
-  shortest-null,
-  shortest-integer,
-  shortest-real,
-  shortest-text,
-  shortest-bool,
-  shortest-other,
   number-some,
   quick-fits,
   quick-length,

@@ -96,10 +96,6 @@ pub record Strange (kind r : ℕ) : Type 0 where
 unfoldable pub largest : ℕ → ℕ → ℕ
 largest kind left = pick (eqb kind 255) 0 (pick (eqb kind 3) 1 (pick (eqb kind 2) left (2 ^ 64 - 1)))
 
--- the tag, and what follows it in any case: eight bytes of a real, one of a bool, the first of a number. Kinds are counted from the null
-unfoldable pub shortest : ℕ → ℕ
-shortest c = pick (eqb c 0) 0 (pick (eqb c 1) 2 (pick (eqb c 2) 9 (pick (eqb c 3) 2 (pick (eqb c 4) 2 0))))
-
 -- the length of all value blocks
 unfoldable pub blocksLen : Answer (List Content) → Answer ℕ
 blocksLen (gives cs) = gives (length (blocksBytes cs))

@@ -2,7 +2,7 @@
 ghost use mathlib.Core.Path.{_≡_};
 ghost use mathlib.Core.List.{[], _∷_, _++_};
 ghost use Prim.Native.Nat.{_+_, _*_, _/_, _^_, _≤_, _<_};
-ghost use lib.Dec.{eqb};
+ghost use lib.Dec.{ltb, eqb};
 ghost use lib.ListN.{length, take, drop, getD};
 ghost use Rattle.paper.specs.Answer.{over, pick, put, sizeOf};
 ghost use Rattle.varint.specs.Leb.{lebBytes};
@@ -12,7 +12,7 @@ ghost use Rattle.cell.specs.Written.{blockBytes, blocksBytes, encoded, w
 ghost use Rattle.cell.specs.ValueList.{items};
 ghost use Rattle.utf8.specs.WellFormed.{checkText};
 ghost use Rattle.utf8.specs.Ascii.{Plain};
-ghost use Rattle.cell.specs.Listing.{wordList, used, held, payload, blockLen, usedAll, heldAll, kindBit, kindBits, kindMap, judged, Judged, Common, Strange, largest, shortest, Quick, blocksLen, headOf, columnsOf, bodyOf, bodySize, Good, Measures};
+ghost use Rattle.cell.specs.Listing.{wordList, used, held, payload, blockLen, usedAll, heldAll, kindBit, kindBits, kindMap, judged, Judged, Common, Strange, largest, Quick, blocksLen, headOf, columnsOf, bodyOf, bodySize, Good, Measures};
 use crate::KIND_LOCAL;
 use crate::inner::NO_PLACE;
 use crate::inner::bitmap_bytes;
@@ -195,18 +195,18 @@ fn largest_word(kind: u8, left: usize) -> u64
     for_kind(kind, NULL, 0, for_kind(kind, tag::BOOL, 1, text))
 }
 
-// The tag and what follows it in any case, by the kind counted from the null: one load.
-fn shortest_len(c: u8) -> usize
-    ensures { λ r. ⌜ (r ≡ shortest c) × (r ≤ 9) ⌝ }
+// The tag, and the first byte behind it. The tests of a kind are functions, so that each is laid out as a choice between two numbers and not as a jump.
+fn first_bytes(kind: u8) -> usize
+    ensures { λ r. ⌜ (r ≡ pick (ltb kind 4) 2 0) × (r ≤ 2) ⌝ }
 {
-    match c {
-        0 => 0,
-        1 => 2,
-        2 => 9,
-        3 => 2,
-        4 => 2,
-        _ => 0,
-    }
+    if kind < 4 { 2 } else { 0 }
+}
+
+// The other bytes of a real.
+fn real_bytes(kind: u8) -> usize
+    ensures { λ r. ⌜ (r ≡ pick (eqb kind 1) 7 0) × (r ≤ 7) ⌝ }
+{
+    if kind == tag::REAL { 7 } else { 0 }
 }
 
 // As `block_len`, without the kinds that are strange. The first byte of a number is counted with the tag.
@@ -216,7 +216,7 @@ fn quick_len(kind: u8, word: u64) -> usize
 {
     let text = for_kind(kind, tag::TEXT, word, 0);
     let number = for_kind(kind, tag::INTEGER, varint::inner::zigzag_bits(word), text);
-    shortest_len(std::num::wrapping_add_u8(kind, 1)) + (varint_len(number) - 1) + text as usize
+    first_bytes(kind) + real_bytes(kind) + (varint_len(number) - 1) + text as usize
 }
 
 // The value blocks of all columns, or 2^63 where it is not known.
