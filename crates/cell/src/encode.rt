@@ -352,6 +352,18 @@ fn bool_byte(word: u64) -> u8
     if word == 1 { 1 } else { 0 }
 }
 
+// An integer. Most are short, and their lengths cannot be guessed.
+fn put_integer(out: &mut [u8], number: u64) -> usize
+    requires { ⌜ length (lebBytes number) ≤ length (now out) ⌝ }
+    ensures { λ r. ⌜ r ≡ length (lebBytes number) ⌝ }
+    ensures { λ _. ⌜ now (out .exit) ≡ over (now (out .entry)) (lebBytes number) ⌝ }
+{
+    if number < 0x20_0000 {
+        return varint::inner::put_short(out, number);
+    }
+    varint::inner::put_u64(out, number)
+}
+
 // A column's value block after its tag.
 fn put_payload(out: &mut [u8], kind: u8, word: u64, data: &[u8], from: usize) -> usize
     requires { ⌜ from + used kind word ≤ length (now «data») ⌝ }
@@ -360,7 +372,7 @@ fn put_payload(out: &mut [u8], kind: u8, word: u64, data: &[u8], from: usize) ->
     ensures { λ _. ⌜ now (out .exit) ≡ over (now (out .entry)) (payload kind word (drop from (now («data» .entry)))) ⌝ }
 {
     if kind == tag::INTEGER {
-        return varint::inner::put_u64(out, varint::inner::zigzag_bits(word));
+        return put_integer(out, varint::inner::zigzag_bits(word));
     }
     if kind == tag::REAL {
         field::inner::put_u64(out, word);
@@ -374,16 +386,14 @@ fn put_payload(out: &mut [u8], kind: u8, word: u64, data: &[u8], from: usize) ->
     put_counted(out, word, &data[from..to])
 }
 
-// A column's value block, tag first. A null has none.
+// A column's value block, tag first. A null has none, and does not come here.
 fn put_block(out: &mut [u8], kind: u8, word: u64, data: &[u8], from: usize) -> usize
+    requires { ⌜ kind ≤ 4 ⌝ }
     requires { ⌜ from + used kind word ≤ length (now «data») ⌝ }
     requires { ⌜ length (blockBytes (held kind word (drop from (now «data»)))) ≤ length (now out) ⌝ }
     ensures { λ r. ⌜ r ≡ length (blockBytes (held kind word (drop from (now («data» .entry))))) ⌝ }
     ensures { λ _. ⌜ now (out .exit) ≡ over (now (out .entry)) (blockBytes (held kind word (drop from (now («data» .entry))))) ⌝ }
 {
-    if tag::VECTOR < kind {
-        return 0;
-    }
     put_byte(out, kind);
     1 + put_payload(&mut out[1..], kind, word, data, from)
 }
@@ -401,6 +411,10 @@ fn put_blocks(out: &mut [u8], kinds: &[u8], words: &[u8], data: &[u8])
     while i < kinds.len() {
         let kind = kinds[i];
         let word = word_at(words, i);
+        if tag::VECTOR < kind {
+            i += 1;
+            continue;
+        }
         at += put_block(&mut out[at..], kind, word, data, from);
         from += data_used(kind, word);
         i += 1;
