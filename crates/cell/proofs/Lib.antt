@@ -7,6 +7,7 @@ pub mod Keys
 pub mod Values
 pub mod ExactValue
 pub mod Placing
+pub mod Copying
 pub mod Numbers
 pub mod BlockWriting
 pub mod Nulls

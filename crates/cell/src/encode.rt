@@ -324,7 +324,18 @@ fn put_byte(out: &mut [u8], byte: u8)
     out[0] = byte;
 }
 
-fn copy(out: &mut [u8], src: &[u8])
+// The first eight bytes and the last eight, which may meet.
+fn copy_ends(out: &mut [u8], src: &[u8])
+    requires { ⌜ (8 ≤ length (now src)) × (length (now src) ≤ 16) ⌝ }
+    requires { ⌜ length (now src) ≤ length (now out) ⌝ }
+    ensures { λ _. ⌜ now (out .exit) ≡ over (now (out .entry)) (now (src .entry)) ⌝ }
+{
+    let last = src.len() - 8;
+    field::inner::put_u64(out, field::inner::u64_at(src));
+    field::inner::put_u64(&mut out[last..], field::inner::u64_at(&src[last..]));
+}
+
+fn copy_all(out: &mut [u8], src: &[u8])
     requires { ⌜ length (now src) ≤ length (now out) ⌝ }
     ensures { λ _. ⌜ now (out .exit) ≡ over (now (out .entry)) (now (src .entry)) ⌝ }
 {
@@ -333,6 +344,20 @@ fn copy(out: &mut [u8], src: &[u8])
         out[i] = src[i];
         i += 1;
     }
+}
+
+// Names and codes are short.
+fn copy(out: &mut [u8], src: &[u8])
+    requires { ⌜ length (now src) ≤ length (now out) ⌝ }
+    ensures { λ _. ⌜ now (out .exit) ≡ over (now (out .entry)) (now (src .entry)) ⌝ }
+{
+    if 8 <= src.len() {
+        if src.len() <= 16 {
+            copy_ends(out, src);
+            return;
+        }
+    }
+    copy_all(out, src)
 }
 
 // A number, and bytes behind it.
