@@ -1,7 +1,7 @@
 // Writing a local entry from its value list: the port of `Cell::encode`.
 ghost use mathlib.Core.Path.{_≡_};
 ghost use mathlib.Core.List.{[], _∷_, _++_};
-ghost use Prim.Native.Nat.{_+_, _*_, _/_, _^_, _≤_, _<_};
+ghost use Prim.Native.Nat.{_+_, _-_, _*_, _/_, _^_, _≤_, _<_};
 ghost use lib.Dec.{ltb, eqb};
 ghost use lib.ListN.{length, take, drop, getD};
 ghost use Rattle.paper.specs.Answer.{over, pick, put, sizeOf};
@@ -468,17 +468,27 @@ fn null_bits(kinds: &[u8]) -> u8
     byte
 }
 
-// Byte b of the bitmap.
-fn null_byte(kinds: &[u8], b: usize) -> u8
-    requires { ⌜ 8 * b ≤ length (now kinds) ⌝ }
+// Byte b of the bitmap, where eight columns stand in it.
+fn whole_byte(kinds: &[u8], b: usize) -> u8
+    requires { ⌜ 8 * b + 8 ≤ length (now kinds) ⌝ }
     ensures { λ r. ⌜ r ≡ kindBits (take 8 (drop (8 * b) (now (kinds .entry)))) ⌝ }
 {
     let from = 8 * b;
-    if kinds.len() - from < 8 {
-        return null_bits(&kinds[from..]);
-    }
     let to = from + 8;
     null_bits(&kinds[from..to])
+}
+
+// The last byte, where fewer stand in it: of the last eight columns those that stand in the byte before are shifted out.
+fn last_byte(kinds: &[u8], b: usize) -> u8
+    requires { ⌜ (8 * b < length (now kinds)) × (length (now kinds) - 8 * b < 8) ⌝ }
+    ensures { λ r. ⌜ r ≡ kindBits (take 8 (drop (8 * b) (now (kinds .entry)))) ⌝ }
+{
+    let from = 8 * b;
+    if kinds.len() < 8 {
+        return null_bits(&kinds[from..]);
+    }
+    let last = kinds.len() - 8;
+    null_bits(&kinds[last..]) >> (from - last)
 }
 
 fn put_bitmap(out: &mut [u8], kinds: &[u8]) -> usize
@@ -488,11 +498,16 @@ fn put_bitmap(out: &mut [u8], kinds: &[u8]) -> usize
     ensures { λ _. ⌜ now (out .exit) ≡ over (now (out .entry)) (kindMap (bitmapBytes (length (now (kinds .entry)))) (now (kinds .entry))) ⌝ }
 {
     let size = bitmap_bytes(kinds.len());
+    let whole = kinds.len() / 8;
     let mut b: usize = 0;
-    while b < size {
-        out[b] = null_byte(kinds, b);
+    while b < whole {
+        out[b] = whole_byte(kinds, b);
         b += 1;
     }
+    if size <= whole {
+        return size;
+    }
+    out[whole] = last_byte(kinds, whole);
     size
 }
 
