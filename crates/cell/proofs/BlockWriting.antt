@@ -143,14 +143,6 @@ held-none kind word rest k =
     sym (search paper)
 
 module _ (kind word : ℕ) where
-  pub none-size : (rest : List ℕ) → 4 < kind → 0 ≡ length (blockBytes (held kind word rest))
-  unfolding blockBytes
-  none-size rest k = rw (held-none kind word rest k)
-
-  pub none-output : (rest out : List ℕ) → 4 < kind → out ≡ over out (blockBytes (held kind word rest))
-  unfolding blockBytes over
-  none-output rest out k = rw (held-none kind word rest k)
-
   module _ (from : ℕ) (s out : List ℕ) (k : kind ≤ 4) (l : from + used kind word ≤ length s) where
     block-is : blockBytes (held kind word (drop from s)) ≡ kind ∷ payload kind word (drop from s)
     block-is = held-block kind word (drop from s) k (rw (length-drop from s) (omega arith))
@@ -200,8 +192,6 @@ pub ruleset blocks = (
   counted-size,
   counted-output,
   word-is,
-  none-size,
-  none-output,
   block-size,
   block-inside,
   block-sum,

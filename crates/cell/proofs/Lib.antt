@@ -8,12 +8,14 @@ pub mod Short
 pub mod Values
 pub mod ExactValue
 pub mod Placing
+pub mod Copying
 pub mod Numbers
 pub mod BlockWriting
 pub mod Nulls
 pub mod Putting
 pub mod Judging
 pub mod Measuring
+pub mod QuickMeasuring
 pub mod Listed
 pub mod Writing
 pub mod KeyWriting

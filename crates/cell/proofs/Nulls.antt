@@ -3,12 +3,12 @@
 use mathlib.Core.Path.{_≡_, refl, sym, _∙_, ap}
 use mathlib.Core.Bool.{Bool, true, false}
 use mathlib.Core.List.{List, [], _∷_}
-use Prim.Native.Nat.{ℕ, zero, suc, _+_, _-_, _*_, _^_, _≤_, _<_}
-use native.Mathlib.Nat.{pow-suc}
+use Prim.Native.Nat.{ℕ, zero, suc, _+_, _-_, _*_, _/_, _^_, _≤_, _<_}
+use native.Mathlib.Nat.{pow-suc, div-one, zero-div}
 use native.Mathlib.Omega.{arith}
 use lib.Dec.{eqb}
 use lib.ListN.{length, take, drop, getD, set, length-drop}
-use lib.Pow.{pow-mono}
+use lib.Pow.{pow-mono, shr-shr}
 use lib.Seq.{drop-cons, drop-drop, drop-length, take-all}
 use mir.Syntax.{w8}
 use mir.Val.{Fits}
@@ -86,13 +86,30 @@ module _ {kinds : List ℕ} {byte c : ℕ} (w : Nulls kinds byte c) where
           record { few = w .few; inside = omega (arith, w .inside); same = rw d (omega arith) }
 
 -- ---- a byte of the bitmap
-module _ (kinds : List ℕ) (b : ℕ) {r : ℕ} where
-  pub byte-last : length kinds - 8 * b < 8 → r ≡ kindBits (take (length kinds - 8 * b) (drop (8 * b) kinds)) → r ≡ kindBits (take 8 (drop (8 * b) kinds))
-  byte-last l e =
-      let t : take 8 (drop (8 * b) kinds) ≡ drop (8 * b) kinds = take-all 8 (drop (8 * b) kinds) (rw (length-drop (8 * b) kinds) (omega arith)) in
-      rw t (rw (rest-all kinds (8 * b)) at e)
+bits-drop : (n : ℕ) (kinds : List ℕ) → kindBits kinds / 2 ^ n ≡ kindBits (drop n kinds)
+unfolding kindBits
+bits-drop zero kinds = div-one (kindBits kinds)
+bits-drop (suc n) [] = zero-div (2 ^ suc n)
+bits-drop (suc n) (kind ∷ kinds) =
+    let h : (kindBit kind + 2 * kindBits kinds) / 2 ≡ kindBits kinds = omega (arith, bit-most kind) in
+    let e : suc n ≡ 1 + n = omega arith in
+    rw e (sym (shr-shr (kindBit kind + 2 * kindBits kinds) 1 n) ∙ rw h (bits-drop n kinds))
 
-  pub byte-whole : r ≡ kindBits (take (8 * b + 8 - 8 * b) (drop (8 * b) kinds)) → r ≡ kindBits (take 8 (drop (8 * b) kinds))
+module _ (kinds : List ℕ) (b : ℕ) where
+  rest-whole : length kinds - 8 * b < 8 → take 8 (drop (8 * b) kinds) ≡ drop (8 * b) kinds
+  rest-whole l = take-all 8 (drop (8 * b) kinds) (rw (length-drop (8 * b) kinds) (omega arith))
+
+  pub byte-last : {r : ℕ} → length kinds - 8 * b < 8 → r ≡ kindBits (take (length kinds - 8 * b) (drop (8 * b) kinds)) → r ≡ kindBits (take 8 (drop (8 * b) kinds))
+  byte-last l e = rw (rest-whole l) (rw (rest-all kinds (8 * b)) at e)
+
+  pub byte-shifted : {r v : ℕ} → 8 * b < length kinds → length kinds - 8 * b < 8 → 8 ≤ length kinds
+      → v ≡ kindBits (take (length kinds - (length kinds - 8)) (drop (length kinds - 8) kinds)) → r ≡ v / 2 ^ (8 * b - (length kinds - 8)) → r ≡ kindBits (take 8 (drop (8 * b) kinds))
+  byte-shifted k l m e f =
+      let n : length kinds - 8 + (8 * b - (length kinds - 8)) ≡ 8 * b = omega arith in
+      rw (rest-whole l)
+      (f ∙ rw (e, rest-all kinds (length kinds - 8)) (bits-drop (8 * b - (length kinds - 8)) (drop (length kinds - 8) kinds) ∙ rw (drop-drop (8 * b - (length kinds - 8)) (length kinds - 8) kinds, n)))
+
+  pub byte-whole : {r : ℕ} → r ≡ kindBits (take (8 * b + 8 - 8 * b) (drop (8 * b) kinds)) → r ≡ kindBits (take 8 (drop (8 * b) kinds))
   byte-whole e = let d : 8 * b + 8 - 8 * b ≡ 8 = omega arith in rw d at e
 
 -- ---- the bitmap
@@ -109,32 +126,57 @@ map-at (suc n) (suc b) kinds h =
     let e : 8 * suc b ≡ 8 + 8 * b = omega arith in
     rw (e, ← drop-drop (8 * b) 8 kinds) (map-at n b (drop 8 kinds) (omega arith))
 
--- the loop over its bytes
+-- the loop over its whole bytes, and the last byte
 pub record Mapping (out₀ kinds : List ℕ) (size : ℕ) (out : List ℕ) (b : ℕ) : Type 0 where
   pub sized : size ≡ bitmapBytes (length kinds)
+  pub whole : b ≤ length kinds / 8
   pub storing : Storing out₀ (kindMap size kinds) out b
 
 pub mapping-start : {out kinds : List ℕ} {size : ℕ} → size ≡ bitmapBytes (length kinds) → bitmapBytes (length kinds) ≤ length out → Mapping out kinds size out 0
 mapping-start {out} {kinds} {size} e l =
-    record { sized = e; storing = storing-start out (kindMap size kinds) (rw (map-length size kinds) (omega arith)) }
+    record { sized = e; whole = omega arith; storing = storing-start out (kindMap size kinds) (rw (map-length size kinds) (omega arith)) }
 
 module _ {out₀ kinds out : List ℕ} {size b : ℕ} (w : Mapping out₀ kinds size out b) where
-  pub mapping-done : size ≤ b → out ≡ over out₀ (kindMap (bitmapBytes (length kinds)) kinds)
-  mapping-done h = rw (w .sized) at (storing-done (w .storing) (rw (map-length size kinds) h))
+  inside : b < size → b < length (kindMap size kinds)
+  inside h = rw (map-length size kinds) h
 
-  module _ (h : b < size) where
-    inside : b < length (kindMap size kinds)
-    inside = rw (map-length size kinds) h
-
-    pub mapping-from : 8 * b ≤ length kinds
+  module _ (h : b < length kinds / 8) where
+    more : b < size
     unfolding bitmapBytes
-    mapping-from = omega (arith, w .sized)
+    more = omega (arith, w .sized)
+
+    pub mapping-room : 8 * b + 8 ≤ length kinds
+    mapping-room = omega arith
 
     pub mapping-inside : b < length out
-    mapping-inside = storing-inside (w .storing) inside
+    mapping-inside = storing-inside (w .storing) (inside more)
 
     pub mapping-more : {v : ℕ} → v ≡ kindBits (take 8 (drop (8 * b) kinds)) → Mapping out₀ kinds size (set out b v) (b + 1)
-    mapping-more e = record { sized = w .sized; storing = storing-more (w .storing) inside (e ∙ sym (map-at size b kinds h)) }
+    mapping-more e = record { sized = w .sized; whole = omega arith; storing = storing-more (w .storing) (inside more) (e ∙ sym (map-at size b kinds more)) }
+
+  module _ (h : length kinds / 8 ≤ b) where
+    done : {new : List ℕ} {n : ℕ} → Storing out₀ (kindMap size kinds) new n → size ≤ n → new ≡ over out₀ (kindMap (bitmapBytes (length kinds)) kinds)
+    done s l = rw (w .sized) at (storing-done s (rw (map-length size kinds) l))
+
+    pub mapping-done : size ≤ length kinds / 8 → out ≡ over out₀ (kindMap (bitmapBytes (length kinds)) kinds)
+    mapping-done l = done (w .storing) (omega arith)
+
+    module _ (l : length kinds / 8 < size) where
+      pub last-room : 8 * (length kinds / 8) < length kinds
+      unfolding bitmapBytes
+      last-room = omega (arith, w .sized)
+
+      here : length kinds / 8 ≡ b
+      here = omega (arith, w .whole)
+
+      pub last-inside : length kinds / 8 < length out
+      last-inside = rw here (storing-inside (w .storing) (inside (omega arith)))
+
+      pub mapping-last : {v : ℕ} → v ≡ kindBits (take 8 (drop (8 * (length kinds / 8)) kinds)) → set out (length kinds / 8) v ≡ over out₀ (kindMap (bitmapBytes (length kinds)) kinds)
+      unfolding bitmapBytes
+      mapping-last e =
+          rw here
+          (done (storing-more (w .storing) (inside (omega arith)) (rw here at e ∙ sym (map-at size b kinds (omega arith)))) (omega (arith, w .sized)))
 
 pub ruleset nulls = (
   placing,
@@ -146,10 +188,14 @@ pub ruleset nulls = (
   nulls-fit,
   nulls-more,
   byte-last,
+  byte-shifted,
   byte-whole,
   mapping-start,
   mapping-done,
-  mapping-from,
+  last-room,
+  last-inside,
+  mapping-last,
+  mapping-room,
   mapping-inside,
   mapping-more,
 )

@@ -19,6 +19,7 @@ use borrow.Author.Tests.{lt-ltb, ltb-true, ltb-false, leb-true, eqb-true, eqb-fa
 use Rattle.paper.specs.Answer.{Answer, gives, refuses, andThen, pick}
 use Rattle.paper.proofs.Laws.{gives-one, gives-refuses, second}
 use Rattle.field.specs.Field.{le, bytes}
+use Rattle.field.proofs.Laws.{bytes-le}
 use Rattle.varint.specs.Leb.{taken, sumFrom, readFrom, readU64, groups, lebBytes, lenU64}
 use Rattle.varint.specs.Number.{readI64}
 use Rattle.varint.specs.Standard.{Bytes, Leb128}
@@ -89,17 +90,7 @@ tenth-differs = (refl, refl)
 
 -- ---- a field of n bytes is those bytes
 pub field-fills : (n at : ℕ) (s : List ℕ) → Bytes s → at + n ≤ length s → Fills s at (bytes n (le n at s)) (at + n)
-unfolding bytes
-field-fills zero at s b l = record { is = rw (add-zero at) }
-field-fills (suc n) at s b l =
-    let w = field-fills n (suc at) s b (omega arith) in
-    let x : ℕ = getD s at 0 in
-    let y : ℕ = le n (suc at) s in
-    let h : x < 256 = byte-below s at b in
-    let low : (x + 256 * y) % 256 ≡ x = omega arith in
-    let high : (x + 256 * y) / 256 ≡ y = omega arith in
-    let d : at + suc n ≡ suc at + n = omega arith in
-    record { is = rw (d, low, high) (drop-cons s at 0 (omega arith) ∙ ap (λ (r : List ℕ). x ∷ r) (w .is)) }
+field-fills n at s b l = rw (bytes-le n at s (λ i. byte-below s i b) l) (fills-part s at n)
 
 -- ---- one value block: its bytes, and its bit in the bitmap
 abbrev SameBlock : List ℕ → ℕ → ℕ → Answer (Block × ℕ) → Type 0

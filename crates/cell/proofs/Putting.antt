@@ -16,7 +16,7 @@ use Rattle.cell.specs.ValueList.{wordsOf}
 use Rattle.cell.specs.Listing.{wordList, used, held, usedAll, heldAll}
 use Rattle.cell.specs.Keyed.{overAt}
 use Rattle.cell.proofs.Placing.{lent, at-then, rest-all, length-at}
-use Rattle.cell.proofs.BlockWriting.{blocks}
+use Rattle.cell.proofs.BlockWriting.{used-none, held-none, blocks}
 
 -- what the columns from column i on write, their data from place from on
 abbrev left : List ℕ → List ℕ → List ℕ → ℕ → ℕ → List ℕ
@@ -72,6 +72,22 @@ module _ {out₀ kinds words rest out : List ℕ} {i from at : ℕ} (w : Putting
         let l : i < length words = omega (arith, w .even) in
         rw (e, drop-cons kinds i 0 h, drop-cons words i 0 l, add-one i)
 
+    -- a null writes nothing
+    pub putting-null : 4 < getD kinds i 0 → Putting out₀ kinds words rest out (i + 1) from at
+    unfolding blockBytes
+    putting-null k =
+        let z : from + used (getD kinds i 0) word ≡ from = omega (arith, used-none (getD kinds i 0) word (λ e. omega arith) (λ e. omega arith)) in
+        let n : left kinds words rest i from ≡ left kinds words rest (i + 1) from
+        = rw (held-none (getD kinds i 0) word (drop from rest) k, z) at left-is in
+        record {
+          long = w .long;
+          even = w .even;
+          inside = omega arith;
+          fits = omega (arith, used-is, w .fits);
+          room = rw n at (w .room);
+          same = rw n at (w .same);
+        }
+
     pub putting-used : from + used (getD kinds i 0) word ≤ length rest
     putting-used = let l : from + usedAll (drop i kinds) (drop i words) ≤ length rest = w .fits in omega (arith, used-is)
 
@@ -116,6 +132,7 @@ pub ruleset putting = (
   blocks,
   putting-start,
   putting-done,
+  putting-null,
   putting-used,
   putting-below,
   putting-room,

@@ -1,6 +1,6 @@
 -- A value list, column by column, where it is good: what the steps of the writer say to each other. No public promise names these.
 use mathlib.Core.Path.{_≡_}
-use Prim.Native.Nat.{ℕ, zero, suc, _+_, _*_, _/_, _^_, _≤_, _<_}
+use Prim.Native.Nat.{ℕ, zero, suc, _+_, _-_, _*_, _/_, _%_, _^_, _≤_, _<_}
 use mathlib.Core.List.{List, [], _∷_, _++_}
 use lib.Dec.{ltb, eqb}
 use lib.ListN.{length, take, drop}
@@ -81,10 +81,30 @@ pub record Judged (kind word : ℕ) (rest : List ℕ) (refusal : ℕ) : Type 0 w
   pub same : judged refusal (held kind word rest, drop (used kind word) rest) ≡ item kind word rest
   pub fits : refusal ≡ 0 → used kind word ≤ length rest
 
+-- ---- the quick reading: what its steps say of a column
+
+-- a null, or a kind before the vector
+pub record Common (kind : ℕ) : Type 0 where
+  pub byte : kind < 256
+  pub near : (kind + 1) % 256 < 5
+
+-- 0 only for such a kind
+pub record Strange (kind r : ℕ) : Type 0 where
+  pub none : r ≡ 0 → Common kind
+
+-- the largest word of such a kind, where so many bytes of data are left
+unfoldable pub largest : ℕ → ℕ → ℕ
+largest kind left = pick (eqb kind 255) 0 (pick (eqb kind 3) 1 (pick (eqb kind 2) left (2 ^ 64 - 1)))
+
 -- the length of all value blocks
 unfoldable pub blocksLen : Answer (List Content) → Answer ℕ
 blocksLen (gives cs) = gives (length (blocksBytes cs))
 blocksLen (refuses k) = refuses k
+
+-- the quick reading's answer: a length, or 2^63, where it does not know
+pub record Quick (a : Answer ℕ) (r : ℕ) : Type 0 where
+  pub same : r < 2 ^ 63 → judged 0 r ≡ a
+  pub most : r < 2 ^ 63 → r ≤ 11 * 65536 + 16777216
 
 -- ---- the body, by a rowid's ZigZag number: kind byte, rowid and count; then the bitmap and the value blocks
 unfoldable pub headOf : ℕ → ℕ → List ℕ

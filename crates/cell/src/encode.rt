@@ -1,8 +1,8 @@
 // Writing a local entry from its value list: the port of `Cell::encode`.
 ghost use mathlib.Core.Path.{_≡_};
 ghost use mathlib.Core.List.{[], _∷_, _++_};
-ghost use Prim.Native.Nat.{_+_, _*_, _/_, _^_, _≤_, _<_};
-ghost use lib.Dec.{eqb};
+ghost use Prim.Native.Nat.{_+_, _-_, _*_, _/_, _^_, _≤_, _<_};
+ghost use lib.Dec.{ltb, eqb};
 ghost use lib.ListN.{length, take, drop, getD};
 ghost use Rattle.paper.specs.Answer.{over, pick, put, sizeOf};
 ghost use Rattle.varint.specs.Leb.{lebBytes};
@@ -11,8 +11,10 @@ ghost use Rattle.cell.specs.Block.{bitmapBytes};
 ghost use Rattle.cell.specs.Written.{blockBytes, blocksBytes, encoded, writeCell};
 ghost use Rattle.cell.specs.ValueList.{items};
 ghost use Rattle.utf8.specs.WellFormed.{checkText};
-ghost use Rattle.cell.specs.Listing.{wordList, used, held, payload, blockLen, usedAll, heldAll, kindBit, kindBits, kindMap, judged, Judged, blocksLen, headOf, columnsOf, bodyOf, bodySize, Good, Measures};
+ghost use Rattle.utf8.specs.Ascii.{Plain};
+ghost use Rattle.cell.specs.Listing.{wordList, used, held, payload, blockLen, usedAll, heldAll, kindBit, kindBits, kindMap, judged, Judged, Common, Strange, largest, Quick, blocksLen, headOf, columnsOf, bodyOf, bodySize, Good, Measures};
 use crate::KIND_LOCAL;
+use crate::inner::NO_PLACE;
 use crate::inner::bitmap_bytes;
 use crate::tag;
 
@@ -54,7 +56,7 @@ fn data_used(kind: u8, word: u64) -> usize
 fn varint_len(value: u64) -> usize
     ensures { λ r. ⌜ (r ≡ length (lebBytes value)) × (r ≤ 10) ⌝ }
 {
-    varint::u64_len(value)
+    varint::inner::len_by_digits(value)
 }
 
 fn block_len(kind: u8, word: u64) -> usize
@@ -134,8 +136,8 @@ struct Measured {
     bytes: usize,
 }
 
-// The value blocks of all columns.
-fn measure_blocks(kinds: &[u8], words: &[u8], data: &[u8]) -> Measured
+// The value blocks of all columns, column by column.
+fn plain_blocks(kinds: &[u8], words: &[u8], data: &[u8]) -> Measured
     requires { ⌜ length (now kinds) ≡ length (now words) / 8 ⌝ }
     requires { ⌜ length (now kinds) ≤ 65536 ⌝ }
     requires { ⌜ length (now «data») ≤ 16777216 ⌝ }
@@ -163,6 +165,105 @@ fn measure_blocks(kinds: &[u8], words: &[u8], data: &[u8]) -> Measured
         };
     }
     Measured { refusal: 0, bytes }
+}
+
+// ---- the first reading, quick: no step hangs on a column's kind, so that nulls at random are not guessed wrong
+
+// One value where the kind is this one, another elsewhere.
+fn for_kind(kind: u8, wanted: u8, value: u64, other: u64) -> u64
+    ensures { λ r. ⌜ r ≡ pick (eqb kind wanted) value other ⌝ }
+{
+    if kind == wanted { value } else { other }
+}
+
+// 0 for a null, and for the kinds before the vector.
+fn strange_kind(kind: u8) -> u64
+    ensures { λ r. ⌜ Strange kind r ⌝ }
+{
+    if std::num::wrapping_add_u8(kind, 1) < 5 {
+        0
+    } else {
+        1
+    }
+}
+
+// The largest word of a good column, where so many bytes of data are left.
+fn largest_word(kind: u8, left: usize) -> u64
+    ensures { λ r. ⌜ r ≡ largest kind left ⌝ }
+{
+    let text = for_kind(kind, tag::TEXT, left as u64, 0xFFFF_FFFF_FFFF_FFFF);
+    for_kind(kind, NULL, 0, for_kind(kind, tag::BOOL, 1, text))
+}
+
+// The tag, and the first byte behind it. The tests of a kind are functions, so that each is laid out as a choice between two numbers and not as a jump.
+fn first_bytes(kind: u8) -> usize
+    ensures { λ r. ⌜ (r ≡ pick (ltb kind 4) 2 0) × (r ≤ 2) ⌝ }
+{
+    if kind < 4 { 2 } else { 0 }
+}
+
+// The other bytes of a real.
+fn real_bytes(kind: u8) -> usize
+    ensures { λ r. ⌜ (r ≡ pick (eqb kind 1) 7 0) × (r ≤ 7) ⌝ }
+{
+    if kind == tag::REAL { 7 } else { 0 }
+}
+
+// As `block_len`, without the kinds that are strange. The first byte of a number is counted with the tag.
+fn quick_len(kind: u8, word: u64) -> usize
+    requires { ⌜ Common kind × (used kind word ≤ 16777216) ⌝ }
+    ensures { λ r. ⌜ (r ≡ blockLen kind word) × (r ≤ 11 + used kind word) ⌝ }
+{
+    let text = for_kind(kind, tag::TEXT, word, 0);
+    let number = for_kind(kind, tag::INTEGER, varint::inner::zigzag_bits(word), text);
+    first_bytes(kind) + real_bytes(kind) + (varint_len(number) - 1) + text as usize
+}
+
+// The value blocks of all columns, or 2^63 where it is not known.
+fn quick_blocks(kinds: &[u8], words: &[u8], data: &[u8]) -> usize
+    requires { ⌜ length (now kinds) ≡ length (now words) / 8 ⌝ }
+    requires { ⌜ length (now kinds) ≤ 65536 ⌝ }
+    requires { ⌜ length (now «data») ≤ 16777216 ⌝ }
+    requires { ⌜ Plain (now «data») 0 (length (now «data»)) ⌝ }
+    ensures { λ r. ⌜ Quick (blocksLen (items (now (kinds .entry)) (wordList (now (words .entry))) (now («data» .entry)))) r ⌝ }
+{
+    let mut i: usize = 0;
+    let mut from: usize = 0;
+    let mut bytes: usize = 0;
+    while i < kinds.len() {
+        let kind = kinds[i];
+        let word = word_at(words, i);
+        if strange_kind(kind) != 0 {
+            return NO_PLACE;
+        }
+        if largest_word(kind, data.len() - from) < word {
+            return NO_PLACE;
+        }
+        bytes += quick_len(kind, word);
+        from += for_kind(kind, tag::TEXT, word, 0) as usize;
+        i += 1;
+    }
+    if from < data.len() {
+        return NO_PLACE;
+    }
+    bytes
+}
+
+// The value blocks of all columns. Where the quick reading does not know, the plain one tells.
+fn measure_blocks(kinds: &[u8], words: &[u8], data: &[u8]) -> Measured
+    requires { ⌜ length (now kinds) ≡ length (now words) / 8 ⌝ }
+    requires { ⌜ length (now kinds) ≤ 65536 ⌝ }
+    requires { ⌜ length (now «data») ≤ 16777216 ⌝ }
+    ensures { λ r. ⌜ judged (r .refusal) (r .bytes) ≡ blocksLen (items (now (kinds .entry)) (wordList (now (words .entry))) (now («data» .entry))) ⌝ }
+    ensures { λ r. ⌜ r .bytes ≤ 11 * 65536 + 16777216 ⌝ }
+{
+    if utf8::inner::all_ascii(data) {
+        let bytes = quick_blocks(kinds, words, data);
+        if bytes < NO_PLACE {
+            return Measured { refusal: 0, bytes };
+        }
+    }
+    plain_blocks(kinds, words, data)
 }
 
 // The whole list, and the length of the body that it makes with the rowid's ZigZag number.
@@ -223,7 +324,18 @@ fn put_byte(out: &mut [u8], byte: u8)
     out[0] = byte;
 }
 
-fn copy(out: &mut [u8], src: &[u8])
+// The first eight bytes and the last eight, which may meet.
+fn copy_ends(out: &mut [u8], src: &[u8])
+    requires { ⌜ (8 ≤ length (now src)) × (length (now src) ≤ 16) ⌝ }
+    requires { ⌜ length (now src) ≤ length (now out) ⌝ }
+    ensures { λ _. ⌜ now (out .exit) ≡ over (now (out .entry)) (now (src .entry)) ⌝ }
+{
+    let last = src.len() - 8;
+    field::inner::put_u64(out, field::inner::u64_at(src));
+    field::inner::put_u64(&mut out[last..], field::inner::u64_at(&src[last..]));
+}
+
+fn copy_all(out: &mut [u8], src: &[u8])
     requires { ⌜ length (now src) ≤ length (now out) ⌝ }
     ensures { λ _. ⌜ now (out .exit) ≡ over (now (out .entry)) (now (src .entry)) ⌝ }
 {
@@ -232,6 +344,20 @@ fn copy(out: &mut [u8], src: &[u8])
         out[i] = src[i];
         i += 1;
     }
+}
+
+// Names and codes are short.
+fn copy(out: &mut [u8], src: &[u8])
+    requires { ⌜ length (now src) ≤ length (now out) ⌝ }
+    ensures { λ _. ⌜ now (out .exit) ≡ over (now (out .entry)) (now (src .entry)) ⌝ }
+{
+    if 8 <= src.len() {
+        if src.len() <= 16 {
+            copy_ends(out, src);
+            return;
+        }
+    }
+    copy_all(out, src)
 }
 
 // A number, and bytes behind it.
@@ -251,6 +377,18 @@ fn bool_byte(word: u64) -> u8
     if word == 1 { 1 } else { 0 }
 }
 
+// An integer. Most are short, and their lengths cannot be guessed.
+fn put_integer(out: &mut [u8], number: u64) -> usize
+    requires { ⌜ length (lebBytes number) ≤ length (now out) ⌝ }
+    ensures { λ r. ⌜ r ≡ length (lebBytes number) ⌝ }
+    ensures { λ _. ⌜ now (out .exit) ≡ over (now (out .entry)) (lebBytes number) ⌝ }
+{
+    if number < 0x20_0000 {
+        return varint::inner::put_short(out, number);
+    }
+    varint::inner::put_u64(out, number)
+}
+
 // A column's value block after its tag.
 fn put_payload(out: &mut [u8], kind: u8, word: u64, data: &[u8], from: usize) -> usize
     requires { ⌜ from + used kind word ≤ length (now «data») ⌝ }
@@ -259,7 +397,7 @@ fn put_payload(out: &mut [u8], kind: u8, word: u64, data: &[u8], from: usize) ->
     ensures { λ _. ⌜ now (out .exit) ≡ over (now (out .entry)) (payload kind word (drop from (now («data» .entry)))) ⌝ }
 {
     if kind == tag::INTEGER {
-        return varint::inner::put_u64(out, varint::inner::zigzag_bits(word));
+        return put_integer(out, varint::inner::zigzag_bits(word));
     }
     if kind == tag::REAL {
         field::inner::put_u64(out, word);
@@ -273,16 +411,14 @@ fn put_payload(out: &mut [u8], kind: u8, word: u64, data: &[u8], from: usize) ->
     put_counted(out, word, &data[from..to])
 }
 
-// A column's value block, tag first. A null has none.
+// A column's value block, tag first. A null has none, and does not come here.
 fn put_block(out: &mut [u8], kind: u8, word: u64, data: &[u8], from: usize) -> usize
+    requires { ⌜ kind ≤ 4 ⌝ }
     requires { ⌜ from + used kind word ≤ length (now «data») ⌝ }
     requires { ⌜ length (blockBytes (held kind word (drop from (now «data»)))) ≤ length (now out) ⌝ }
     ensures { λ r. ⌜ r ≡ length (blockBytes (held kind word (drop from (now («data» .entry))))) ⌝ }
     ensures { λ _. ⌜ now (out .exit) ≡ over (now (out .entry)) (blockBytes (held kind word (drop from (now («data» .entry))))) ⌝ }
 {
-    if tag::VECTOR < kind {
-        return 0;
-    }
     put_byte(out, kind);
     1 + put_payload(&mut out[1..], kind, word, data, from)
 }
@@ -300,6 +436,10 @@ fn put_blocks(out: &mut [u8], kinds: &[u8], words: &[u8], data: &[u8])
     while i < kinds.len() {
         let kind = kinds[i];
         let word = word_at(words, i);
+        if tag::VECTOR < kind {
+            i += 1;
+            continue;
+        }
         at += put_block(&mut out[at..], kind, word, data, from);
         from += data_used(kind, word);
         i += 1;
@@ -328,17 +468,27 @@ fn null_bits(kinds: &[u8]) -> u8
     byte
 }
 
-// Byte b of the bitmap.
-fn null_byte(kinds: &[u8], b: usize) -> u8
-    requires { ⌜ 8 * b ≤ length (now kinds) ⌝ }
+// Byte b of the bitmap, where eight columns stand in it.
+fn whole_byte(kinds: &[u8], b: usize) -> u8
+    requires { ⌜ 8 * b + 8 ≤ length (now kinds) ⌝ }
     ensures { λ r. ⌜ r ≡ kindBits (take 8 (drop (8 * b) (now (kinds .entry)))) ⌝ }
 {
     let from = 8 * b;
-    if kinds.len() - from < 8 {
-        return null_bits(&kinds[from..]);
-    }
     let to = from + 8;
     null_bits(&kinds[from..to])
+}
+
+// The last byte, where fewer stand in it: of the last eight columns those that stand in the byte before are shifted out.
+fn last_byte(kinds: &[u8], b: usize) -> u8
+    requires { ⌜ (8 * b < length (now kinds)) × (length (now kinds) - 8 * b < 8) ⌝ }
+    ensures { λ r. ⌜ r ≡ kindBits (take 8 (drop (8 * b) (now (kinds .entry)))) ⌝ }
+{
+    let from = 8 * b;
+    if kinds.len() < 8 {
+        return null_bits(&kinds[from..]);
+    }
+    let last = kinds.len() - 8;
+    null_bits(&kinds[last..]) >> (from - last)
 }
 
 fn put_bitmap(out: &mut [u8], kinds: &[u8]) -> usize
@@ -348,11 +498,16 @@ fn put_bitmap(out: &mut [u8], kinds: &[u8]) -> usize
     ensures { λ _. ⌜ now (out .exit) ≡ over (now (out .entry)) (kindMap (bitmapBytes (length (now (kinds .entry)))) (now (kinds .entry))) ⌝ }
 {
     let size = bitmap_bytes(kinds.len());
+    let whole = kinds.len() / 8;
     let mut b: usize = 0;
-    while b < size {
-        out[b] = null_byte(kinds, b);
+    while b < whole {
+        out[b] = whole_byte(kinds, b);
         b += 1;
     }
+    if size <= whole {
+        return size;
+    }
+    out[whole] = last_byte(kinds, whole);
     size
 }
 

@@ -1,11 +1,11 @@
--- Reading from a part, and after writing, for every width.
+-- Reading from a part, reading after writing, and writing after reading, for every width.
 -- Assumes nothing.
-use mathlib.Core.Path.{_≡_, refl, sym, _∙_}
+use mathlib.Core.Path.{_≡_, refl, sym, ap, _∙_}
 use mathlib.Core.List.{List, _∷_, _++_}
 use Prim.Native.Nat.{ℕ, zero, suc, _+_, _*_, _/_, _%_, _^_, _≤_, _<_}
 use native.Mathlib.Omega.{arith}
-use lib.ListN.{take, drop}
-use lib.Seq.{getD-take, getD-drop}
+use lib.ListN.{length, take, drop, getD}
+use lib.Seq.{getD-take, getD-drop, drop-cons}
 use lib.Pow.{shr-lt}
 use Rattle.field.specs.Field.{le, bytes}
 
@@ -31,3 +31,14 @@ le-bytes (suc n) v t h =
     let d : le n 1 (v % 256 ∷ (bytes n (v / 256) ++ t)) ≡ v / 256
     = sym (le-drop n 0 1 (v % 256 ∷ (bytes n (v / 256) ++ t))) ∙ le-bytes n (v / 256) t l in
     rw d (omega arith)
+
+-- what is read and written again is the bytes that were read
+pub bytes-le : (n at : ℕ) (s : List ℕ) → ((i : ℕ) → getD s i 0 < 256) → at + n ≤ length s → bytes n (le n at s) ≡ take n (drop at s)
+unfolding bytes
+bytes-le zero at s b l = refl
+bytes-le (suc n) at s b l =
+    let x : ℕ = getD s at 0 in
+    let y : ℕ = le n (suc at) s in
+    let low : (x + 256 * y) % 256 ≡ x = omega (arith, b at) in
+    let high : (x + 256 * y) / 256 ≡ y = omega (arith, b at) in
+    rw (drop-cons s at 0 (omega arith), low, high) (ap (λ (r : List ℕ). x ∷ r) (bytes-le n (suc at) s b (omega arith)))

@@ -10,15 +10,15 @@ use mathlib.Core.Option.{Option}
 use lib.Dec.{eqb, lit<}
 use borrow.Author.Tests.{eqb-true}
 use lib.Bits.{bitAnd, bitOr, and-step, or-step, and-zero-r, or-comm, and-block, and-high}
-use lib.ListN.{length, getD, take, drop, length-drop, drop-of-length-le}
-use lib.Seq.{getD-drop, drop-drop, drop-cons, take-all}
+use lib.ListN.{length, getD, take, drop, length-take, length-drop, drop-of-length-le}
+use lib.Seq.{getD-take, getD-drop, drop-drop, drop-cons, take-all}
 use mir.Syntax.{w8}
 use mir.Val.{Fits}
 use Rattle.paper.specs.Answer.{pick}
 use Rattle.field.specs.Field.{le}
 use Rattle.utf8.specs.Table.{_‥_, Row, table}
 use Rattle.utf8.specs.WellFormed.{begun, after, completes, whole, wellFormed}
-use Rattle.utf8.specs.Ascii.{Ascii, Passed}
+use Rattle.utf8.specs.Ascii.{Ascii, Plain, Passed}
 use Rattle.utf8.proofs.Cases.{by-order}
 use Rattle.utf8.proofs.Rows.{inside-in}
 
@@ -111,9 +111,8 @@ module _ (s : List ℕ) (f : Bytes s) (a b c d : ℕ) (ea : a ≡ le 8 0 s)
   later : (k w : ℕ) → w ≡ le 8 0 (onward k s) → bitAnd w HIGH ≡ 0 → Ascii 8 (drop k s)
   later k w e = word-ascii (drop k s) (λ i. rw getD-drop (f (k + i))) w (e ∙ ap (le 8 0) (onward-is k s))
 
-  pub plain4-ascii : eqb (bitAnd (bitOr (bitOr (bitOr a b) c) d) HIGH) 0 ≡ true → Ascii 32 s
-  plain4-ascii t =
-      let abcd = eqb-true (bitAnd (bitOr (bitOr (bitOr a b) c) d) HIGH) 0 t in
+  pub four-ascii : bitAnd (bitOr (bitOr (bitOr a b) c) d) HIGH ≡ 0 → Ascii 32 s
+  four-ascii abcd =
       let abc = left (bitOr (bitOr a b) c) d abcd in
       let ab = left (bitOr a b) c abc in
       more 24 8 s
@@ -121,6 +120,12 @@ module _ (s : List ℕ) (f : Bytes s) (a b c d : ℕ) (ea : a ≡ le 8 0 s)
       (more 8 8 s (word-ascii s f a ea (left a b ab)) (later 8 b eb (right a b ab)))
       (later 16 c ec (right (bitOr a b) c abc)))
       (later 24 d ed (right (bitOr (bitOr a b) c) d abcd))
+
+pub plain8-ascii : (s : List ℕ) (a b : ℕ) → (bitAnd a HIGH ≡ 0 → Ascii 32 s) → (bitAnd b HIGH ≡ 0 → Ascii 32 (onward 32 s))
+    → eqb (bitAnd (bitOr a b) HIGH) 0 ≡ true → Ascii 64 s
+plain8-ascii s a b f g t =
+    let e = eqb-true (bitAnd (bitOr a b) HIGH) 0 t in
+    more 32 32 s (f (left a b e)) (rw (onward-is 32 s) at (g (right a b e)))
 
 -- ---- ASCII is passed over
 
@@ -133,17 +138,73 @@ ascii-drop zero s a = refl
 ascii-drop (suc n) [] a = refl
 ascii-drop (suc n) (b ∷ s) a = ascii-drop n s (λ i h. a (suc i) (omega arith)) ∙ sym (ascii-one b s (a 0 (omega arith)))
 
-pub passed-none : (s : List ℕ) (i : ℕ) → i ≤ length s → Passed s i i
-passed-none s i h = record { ahead = omega arith; inside = h; same = refl }
+-- ---- from place to place
+pub plain-none : (s : List ℕ) (i : ℕ) → i ≤ length s → Plain s i i
+plain-none s i h = record { ahead = omega arith; inside = h; ascii = λ j l m. absurd (omega arith) }
 
-pub passed-more : (n : ℕ) {s : List ℕ} {from i : ℕ} → Passed s from i → n ≤ length s - i → (r : Bool) → (r ≡ true → Ascii n (onward i s)) → r ≡ true → Passed s from (i + n)
-passed-more n {s} {from} {i} p h r f e =
+pub plain-more : (n : ℕ) {s : List ℕ} {from i : ℕ} → Plain s from i → n ≤ length s - i → (r : Bool) → (r ≡ true → Ascii n (onward i s)) → r ≡ true → Plain s from (i + n)
+plain-more n {s} {from} {i} p h r f e =
     let g : i ≤ length s = p .inside in
     record {
-      ahead = omega arith;
+      ahead = omega (arith, p .ahead);
       inside = by-order 0 n (λ z. omega arith) (λ z. omega arith);
-      same = ap wellFormed (sym (drop-drop n i s)) ∙ ascii-drop n (drop i s) (rw onward-is at (f e)) ∙ p .same;
+      ascii = λ j l m. by-order j i (λ b. p .ascii j l b) (λ b. next j b m);
     }
+  where
+    next : (j : ℕ) → i ≤ j → j < i + n → getD s j 0 < 0x80
+    next j b m =
+        let k : i + (j - i) ≡ j = omega arith in
+        rw (onward-is i s, getD-drop i s (j - i) 0, k) at (f e (j - i) (omega arith))
+
+pub plain-one : {s : List ℕ} {from i : ℕ} → Plain s from i → i < length s → getD s i 0 < 0x80 → Plain s from (i + 1)
+plain-one {s} {from} {i} p h b =
+    record {
+      ahead = omega (arith, p .ahead);
+      inside = omega arith;
+      ascii = λ j l m. by-order j i (λ a. p .ascii j l a) (λ a. let k : j ≡ i = omega arith in rw k b);
+    }
+
+-- fewer than eight bytes are left, and the last eight are ASCII
+pub plain-last : {s : List ℕ} {i : ℕ} → Plain s 0 i → length s - i < 8 → 8 ≤ length s → (r : Bool) → (r ≡ true → Ascii 8 (onward (length s - 8) s)) → r ≡ true
+    → Plain s 0 (length s)
+plain-last {s} {i} p l h r f e =
+    record {
+      ahead = omega arith;
+      inside = omega arith;
+      ascii = λ j a b. by-order j i (λ c. p .ascii j a c) (λ c. last j c b);
+    }
+  where
+    last : (j : ℕ) → i ≤ j → j < length s → getD s j 0 < 0x80
+    last j c b =
+        let k : length s - 8 + (j - (length s - 8)) ≡ j = omega arith in
+        rw (onward-is (length s - 8) s, getD-drop (length s - 8) s (j - (length s - 8)) 0, k) at (f e (j - (length s - 8)) (omega arith))
+
+pub plain-end : {s : List ℕ} {i : ℕ} → Plain s 0 i → length s ≤ i → Plain s 0 (length s)
+plain-end {s} {i} p h = let k : i ≡ length s = omega (arith, p .inside) in rw k at p
+
+pub plain-passed : {s : List ℕ} {from to : ℕ} → Plain s from to → Passed s from to
+plain-passed {s} {from} {to} p =
+    let k : from + (to - from) ≡ to = omega (arith, p .ahead) in
+    record {
+      ahead = p .ahead;
+      inside = p .inside;
+      same = rw (drop-drop (to - from) from s, k) at (ascii-drop (to - from) (drop from s) (λ i h. rw (getD-drop from s i 0) (p .ascii (from + i) (omega arith) (omega arith))));
+    }
+
+-- any part of it is a text
+pub plain-part : {s : List ℕ} → Plain s 0 (length s) → (n from : ℕ) → wellFormed (take n (drop from s)) ≡ true
+unfolding wellFormed completes whole
+plain-part {s} p n from =
+    let t : List ℕ = take n (drop from s) in
+    sym (ascii-drop (length t) t below) ∙ ap wellFormed (drop-of-length-le t {i = length t} (omega arith))
+  where
+    below : Ascii (length (take n (drop from s))) (take n (drop from s))
+    below i h =
+        let l : length (take n (drop from s)) ≡ min n (length (drop from s)) = length-take n (drop from s) in
+        rw (getD-take n (drop from s) i 0 (omega arith), getD-drop from s i 0) (p .ascii (from + i) (omega arith) (omega (arith, length-drop from s)))
+
+pub passed-none : (s : List ℕ) (i : ℕ) → i ≤ length s → Passed s i i
+passed-none s i h = record { ahead = omega arith; inside = h; same = refl }
 
 pub passed-one : {s : List ℕ} {from i : ℕ} → Passed s from i → i < length s → getD s i 0 < 0x80 → Passed s from (i + 1)
 passed-one {s} {from} {i} p h b =
@@ -160,22 +221,3 @@ passed-text p e = e ∙ p .same
 pub passed-all : {s : List ℕ} {i : ℕ} → Passed s 0 i → length s ≤ i → true ≡ wellFormed s
 unfolding wellFormed completes whole
 passed-all {s} {i} p h = sym (ap wellFormed (drop-of-length-le s {i = i} h)) ∙ p .same
-
--- fewer than eight bytes are left, and the last eight are ASCII
-pub passed-last : {s : List ℕ} {i : ℕ} → Passed s 0 i → length s - i < 8 → 8 ≤ length s → (r : Bool) → (r ≡ true → Ascii 8 (onward (length s - 8) s)) → r ≡ true
-    → true ≡ wellFormed s
-passed-last {s} {i} p l h r f e =
-    passed-all {i = i + (length s - i)}
-    (record {
-      ahead = omega arith;
-      inside = omega (arith, p .inside);
-      same =
-          ap wellFormed (sym (drop-drop (length s - i) i s))
-          ∙ ascii-drop (length s - i) (drop i s) (λ j g. rw (getD-drop i s j 0) (last j g)) ∙ p .same;
-    })
-    (omega (arith, p .inside))
-  where
-    last : (j : ℕ) → j < length s - i → getD s (i + j) 0 < 0x80
-    last j g =
-        let k : length s - 8 + (i + j - (length s - 8)) ≡ i + j = omega (arith, p .inside) in
-        rw (onward-is (length s - 8) s, getD-drop (length s - 8) s (i + j - (length s - 8)) 0, k) at (f e (i + j - (length s - 8)) (omega (arith, p .inside)))

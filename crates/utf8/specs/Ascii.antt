@@ -9,6 +9,12 @@ use Rattle.utf8.specs.WellFormed.{wellFormed}
 abbrev pub Ascii : ℕ → List ℕ → Type 0
 Ascii n s = (i : ℕ) → i < n → getD s i 0 < 0x80
 
+-- all between two places of a text
+pub record Plain (s : List ℕ) (from to : ℕ) : Type 0 where
+  pub ahead : from ≤ to
+  pub inside : to ≤ length s
+  pub ascii : (i : ℕ) → from ≤ i → i < to → getD s i 0 < 0x80
+
 -- what stands between two places of a text does not matter to what follows
 pub record Passed (s : List ℕ) (from to : ℕ) : Type 0 where
   pub ahead : from ≤ to

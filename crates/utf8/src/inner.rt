@@ -2,10 +2,11 @@
 ghost use mathlib.Core.Path.{_≡_};
 ghost use mathlib.Core.Bool.{true};
 ghost use Prim.Native.Nat.{_%_, _≤_, _<_};
+ghost use lib.Bits.{bitAnd};
 ghost use lib.ListN.{length, drop};
 ghost use Rattle.utf8.specs.WellFormed.{wellFormed};
 ghost use Rattle.utf8.specs.Machine.{State, Moves, Reads, Alike, Chart, Line, Packs};
-ghost use Rattle.utf8.specs.Ascii.{Ascii, Passed};
+ghost use Rattle.utf8.specs.Ascii.{Ascii, Plain};
 use field::inner::u64_at;
 use paper::inner::wide;
 
@@ -21,25 +22,33 @@ fn plain(s: &[u8]) -> bool
     u64_at(s) & HIGH == 0
 }
 
-// Four words.
-fn plain4(s: &[u8]) -> bool
+// The bits of four words together.
+fn four_words(s: &[u8]) -> u64
     requires { ⌜ 32 ≤ length (now s) ⌝ }
-    ensures { λ r. ⌜ (r ≡ true → Ascii 32 (now (s .entry))) ⌝ }
+    ensures { λ r. ⌜ (bitAnd r 0x8080_8080_8080_8080 ≡ 0 → Ascii 32 (now (s .entry))) ⌝ }
 {
-    (u64_at(s) | u64_at(&s[8..]) | u64_at(&s[16..]) | u64_at(&s[24..])) & HIGH == 0
+    u64_at(s) | u64_at(&s[8..]) | u64_at(&s[16..]) | u64_at(&s[24..])
 }
 
-// Passes over whole words of ASCII from this place on: at the place that it answers the text goes on as well-formed as at this one.
+// Eight words.
+fn plain8(s: &[u8]) -> bool
+    requires { ⌜ 64 ≤ length (now s) ⌝ }
+    ensures { λ r. ⌜ (r ≡ true → Ascii 64 (now (s .entry))) ⌝ }
+{
+    (four_words(s) | four_words(&s[32..])) & HIGH == 0
+}
+
+// Passes over whole words of ASCII from this place on.
 fn past_ascii(s: &[u8], from: usize) -> usize
     requires { ⌜ from ≤ length (now s) ⌝ }
-    ensures { λ r. ⌜ Passed (now (s .entry)) from r ⌝ }
+    ensures { λ r. ⌜ Plain (now (s .entry)) from r ⌝ }
 {
     let mut i = from;
-    while 32 <= s.len() - i {
-        if !plain4(&s[i..]) {
+    while 64 <= s.len() - i {
+        if !plain8(&s[i..]) {
             break;
         }
-        i += 32;
+        i += 64;
     }
     while 8 <= s.len() - i {
         if !plain(&s[i..]) {
@@ -232,4 +241,25 @@ pub fn accepted(s: &[u8]) -> bool
         return few(s, i);
     }
     rest(s, i)
+}
+
+// Whether all of it is ASCII.
+pub fn all_ascii(s: &[u8]) -> bool
+    ensures { λ r. ⌜ (r ≡ true → Plain (now (s .entry)) 0 (length (now (s .entry)))) ⌝ }
+{
+    let mut i = past_ascii(s, 0);
+    if 8 <= s.len() - i {
+        return false;
+    }
+    if 8 <= s.len() {
+        let last = s.len() - 8;
+        return plain(&s[last..]);
+    }
+    while i < s.len() {
+        if 0x80 <= s[i] {
+            return false;
+        }
+        i += 1;
+    }
+    true
 }

@@ -1,6 +1,8 @@
 pub mod Reading
 pub mod Limits
+pub mod Digits
 pub mod Writing
+pub mod Short
 pub mod Signed
 pub mod Laws
 pub mod Standard

@@ -2,10 +2,11 @@
 // something of its caller stands here.
 ghost use mathlib.Core.Path.{_≡_};
 ghost use Prim.Native.Nat.{_+_, _*_, _%_, _^_, _<_, _≤_};
+ghost use lib.Dec.{ltb};
 ghost use lib.ListN.{length, getD};
 ghost use mir.Syntax.{w64};
 ghost use mir.Val.{toZ};
-ghost use Rattle.paper.specs.Answer.{over};
+ghost use Rattle.paper.specs.Answer.{pick, over};
 ghost use Rattle.paper.specs.Coded.{Coded};
 ghost use Rattle.varint.specs.Leb.{endU64, lenU64, lebBytes};
 ghost use Rattle.varint.specs.Zigzag.{zigzag};
@@ -167,4 +168,34 @@ pub fn put_u64(out: &mut [u8], value: u64) -> usize
     }
     out[i] = v as u8;
     i + 1
+}
+
+// The bytes of `value`, by its binary digits: a byte holds seven of them, and nine sixty-fourths are near enough to a seventh.
+// It asks no limit of the table, so that a loop over numbers of all sizes has no guess to make.
+pub fn len_by_digits(value: u64) -> usize
+    ensures { λ r. ⌜ r ≡ lenU64 value ⌝ }
+{
+    let digits = 64 - u64::leading_zeros(value | 1) as usize;
+    (9 * digits + 64) / 64
+}
+
+// 1 from the limit on.
+fn reaches(value: u64, limit: u64) -> usize
+    ensures { λ r. ⌜ (r ≡ pick (ltb value limit) 0 1) × (r ≤ 1) ⌝ }
+{
+    if value < limit { 0 } else { 1 }
+}
+
+// As `put_u64`, for numbers of at most three bytes: three stores in any case, of which a later one may cover an earlier. So the length is no guess.
+pub fn put_short(out: &mut [u8], value: u64) -> usize
+    requires { ⌜ (value < 2 ^ 21) × (lenU64 value ≤ length (now out)) ⌝ }
+    ensures { λ r. ⌜ r ≡ lenU64 value ⌝ }
+    ensures { λ _. ⌜ now (out .exit) ≡ over (now (out .entry)) (lebBytes value) ⌝ }
+{
+    let second = reaches(value, 0x80);
+    let last = second + reaches(value, 0x4000);
+    out[0] = (128 + value % 128) as u8;
+    out[second] = (128 + value / 128 % 128) as u8;
+    out[last] = (value >> (7 * last)) as u8;
+    last + 1
 }

@@ -1,9 +1,5 @@
 -- `cell::encode::measure_blocks` meets its contract. Assumes nothing.
-use Prim.Native.Nat.{_-_}
-use lib.ListN.{length}
-use Rattle.cell.specs.Listing.{wordList}
-use Rattle.cell.proofs.Measuring.{Measuring}
-use Rattle.cell.proofs.Measuring.{measuring}
+use Rattle.cell.proofs.QuickMeasuring.{quickly}
 use Rattle.cell.proofs.encode.measure_blocks.Statement.{statement}
 use Rattle.cell.proofs.encode.measure_blocks.Tie as tie
 
@@ -11,9 +7,6 @@ pub measure-blocks-spec : {M : Type 1} → statement M
 measure-blocks-spec =
     tie.close
     (tie.spec
-    (λ kinds words «data» i₀ from₀ bytes₀ i from bytes. Measuring kinds (wordList words) «data» i from bytes)
-    (λ kinds words «data» i₀ from₀ bytes₀ i from bytes. length kinds - i) (λ c. search measuring)
-    (λ c. search measuring) (λ c κs. search measuring) (λ c κs. search measuring) (λ c. search measuring)
-    (λ c κs. search measuring) (λ c. search measuring) (λ c κs. search measuring) (λ c. search measuring)
-    (λ c. search measuring) (λ c. search measuring) (λ c. search measuring) (λ c. search measuring)
-    (λ c. search measuring))
+    (λ c κs. search quickly)
+    (λ c κs. (search quickly, (search quickly, (search quickly, c .before .all-ascii .ensures (c .if1 .taken)))))
+    (λ c. search quickly) (λ c κs. search quickly) (λ c. search quickly))

@@ -7,5 +7,5 @@ pub put-block-spec : {M : Type 1} → statement M
 put-block-spec =
     tie.close
     (tie.spec
-    (λ c. search blocks) (λ c κs. search blocks) (λ c. search blocks) (λ c. search blocks) (λ c. search blocks)
-    (λ c κs. search blocks) (λ c. search blocks) (λ c. search blocks) (λ c. search blocks))
+    (λ c κs. search blocks) (λ c. search blocks) (λ c. search blocks) (λ c. search blocks) (λ c κs. search blocks)
+    (λ c. search blocks) (λ c. search blocks) (λ c. search blocks))

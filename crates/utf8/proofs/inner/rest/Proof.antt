@@ -8,6 +8,7 @@ use Rattle.paper.specs.Answer.{pick}
 use Rattle.utf8.specs.Table.{table}
 use Rattle.utf8.specs.WellFormed.{inside, begun, after}
 use Rattle.utf8.specs.Machine.{states, every, sameRange, sameRow, sameLeft, sample, alike, Chart, Reads}
+use Rattle.utf8.proofs.Ascii.{plain-passed}
 use Rattle.utf8.proofs.Machine.{starts, reads-none, reads-on, reads-past, text-none, text-end}
 use Rattle.utf8.proofs.inner.rest.Statement.{statement}
 use Rattle.utf8.proofs.inner.rest.Tie as tie
@@ -32,7 +33,7 @@ loop-again : tie.Need-loop-again Inv-loop μ-loop
 loop-again c =
     let r = c .before .before .before in
     let v = r .before .before .before .loop .inv in
-    (reads-past (reads-on (v .0) (r .run .ensures)) (c .before .if2 .taken) (c .past-ascii .ensures), (search needs, v .1 .1))
+    (reads-past (reads-on (v .0) (r .run .ensures)) (c .before .if2 .taken) (plain-passed (c .past-ascii .ensures)), (search needs, v .1 .1))
 
 loop-again-2 : tie.Need-loop-again-2 Inv-loop μ-loop
 loop-again-2 c =
