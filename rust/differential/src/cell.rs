@@ -232,6 +232,11 @@ impl List {
         list
     }
 
+    /// At least as many bytes as its entry takes.
+    fn most(&self) -> usize {
+        8 + self.kinds.len().div_ceil(8) + 11 * self.kinds.iter().filter(|kind| **kind != 255).count() + self.data.len()
+    }
+
     fn writing<'a>(&'a self, rowid: i64, output: &'a [u8]) -> Input<'a> {
         Input { numbers: [rowid as u64, 0, 0, 0], bytes: [&self.kinds, &self.words, &self.data], outputs: [output, &[]] }
     }
@@ -295,6 +300,28 @@ fn some_list(columns: usize, random: &mut Random) -> List {
         }
     }
     list
+}
+
+/// A row without vectors whose texts are ASCII, short and of every length: it is measured by words that no column is branched on for.
+fn common_list(columns: usize, random: &mut Random) -> List {
+    let mut list = List::default();
+    for _ in 0..columns {
+        match random.below(8) {
+            0 | 1 => list.push(0, inputs::signed_like(random.number()), &[]),
+            2 => list.push(1, random.next(), &[]),
+            3 | 4 => {
+                let text = ascii(random.below(24) as usize, random);
+                list.push(2, text.len() as u64, &text);
+            }
+            5 => list.push(3, random.below(2), &[]),
+            _ => list.push(255, 0, &[]),
+        }
+    }
+    list
+}
+
+fn ascii(length: usize, random: &mut Random) -> Vec<u8> {
+    (0..length).map(|_| random.byte() & 0x7F).collect()
 }
 
 /// The body of a row.
@@ -618,6 +645,19 @@ fn writers(run: &mut Comparison) {
             places.iter().for_each(|place| run.check(*place, &list.writing(-1, &output)));
         }
     }
+    // Texts of every length up to some words: ASCII, with a longer character at the end, and with a byte at any place that no text has.
+    for length in 0..=140 {
+        let text = ascii(length, &mut run.random);
+        let mut all = vec![text.clone(), [&text[..], "é".as_bytes()].concat()];
+        all.extend((0..length).map(|at| [&text[..at], &[0xFF], &text[at + 1..]].concat()));
+        for text in all {
+            let list = List::of(&[(255, 0, &[]), (2, text.len() as u64, &text), (3, 1, &[])]);
+            for size in [length + 8, 160] {
+                let output = run.random.bytes(size);
+                places.iter().for_each(|place| run.check(*place, &list.writing(300, &output)));
+            }
+        }
+    }
     // Bodies on either side of a longer length varint.
     for length in (110..=130).chain(16_360..=16_390) {
         let list = List::of(&[(2, length, &vec![b'x'; length as usize])]);
@@ -641,9 +681,9 @@ fn writers(run: &mut Comparison) {
         let output = vec![0xEE; bytes as usize + 13];
         places.iter().for_each(|place| run.check(*place, &list.writing(0, &output)));
     }
-    for round in 0..20_000 * run.scale {
+    for round in 0..60_000 * run.scale {
         let columns = run.random.below(if round % 16 == 0 { 70 } else { 8 }) as usize;
-        let mut list = some_list(columns, &mut run.random);
+        let mut list = if round % 3 == 0 { some_list(columns, &mut run.random) } else { common_list(columns, &mut run.random) };
         if run.random.below(3) == 0 {
             list = damaged_list(&list, &mut run.random);
         }
@@ -729,11 +769,14 @@ fn sample(put: &mut dyn FnMut(&'static str, &Input)) {
         }
     }
     for list in telling_lists() {
-        let room = 8 + list.kinds.len().div_ceil(8) + 11 * list.kinds.iter().filter(|kind| **kind != 255).count() + list.data.len();
         for name in WRITERS {
-            for size in [0, 4, room] {
+            for size in [0, 4, list.most()] {
                 put(name, &list.writing(-1, &(0..size).map(|i| 0xE0 | i as u8).collect::<Vec<u8>>()));
             }
         }
+    }
+    for columns in [1, 4, 7, 8, 12, 20] {
+        let list = common_list(columns, &mut random);
+        WRITERS.iter().for_each(|name| put(name, &list.writing(300, &vec![0xEE; list.most()])));
     }
 }

@@ -104,6 +104,12 @@ const EDGES: [u8; 9] = [0x00, 0x01, 0x02, 0x03, 0x04, 0x05, 0x7F, 0x80, 0xFF];
 /// Page numbers: each byte of them alone, and the ends.
 const PAGES: [u32; 9] = [0, 1, 9, 0x7F, 0x80, 0x1234_5678, 0x8000_0000, 0xFF00_FF00, 0xFFFF_FFFF];
 
+/// What stands behind an entry. All of it is as much as the longest reference: where there is so much, numbers are read by words.
+const BEHIND: [u8; 26] = [
+    0x01, 0x80, 0xFF, 0x7F, 0x00, 0x02, 0x80, 0x80, 0x80, 0x80, 0x80, 0x80, 0x80, 0x80, 0x80, 0x01, 0x03, 0xFF, 0xFF, 0xFF, 0xFF, 0xFF,
+    0xFF, 0xFF, 0xFF, 0xFF,
+];
+
 /// Outputs from none to one more than a reference can take, and than an interior cell can.
 const REFERENCE_SIZES: std::ops::RangeInclusive<usize> = 0..=27;
 const INTERIOR_SIZES: std::ops::RangeInclusive<usize> = 0..=17;
@@ -183,12 +189,14 @@ fn all(run: &mut Comparison, places: &[usize; 3], buf: &[u8], pos: usize) {
     places.iter().for_each(|place| run.check(*place, &reading(buf, pos)));
 }
 
-/// `body` behind the length of it and of `more` bytes; alone, and with something behind it.
+/// `body` behind the length of it and of `more` bytes; alone, with something behind it, and with room behind it.
 fn both_ways(run: &mut Comparison, places: &[usize; 3], body: &[u8], more: u64) {
     let mut buf = leb(body.len() as u64 + more);
     buf.extend(body);
     all(run, places, &buf, 0);
-    buf.extend([0x01, 0x80]);
+    buf.extend(&BEHIND[..2]);
+    all(run, places, &buf, 0);
+    buf.extend(&BEHIND[2..]);
     all(run, places, &buf, 0);
 }
 
@@ -211,7 +219,14 @@ fn readers(run: &mut Comparison) {
     for (front, readers) in [(&[OVERFLOW, 0x0E, 0x88, 0x27][..], &[overflow, paged][..]), (&[INTERIOR, 0x14], &[cell])] {
         every_end(front, &ALL, 2, |body| both_ways(run, &places, body, 0));
         every_end(front, &[0x00, 0x7F, 0x80], 6, |body| both_ways(run, &places, body, 0));
-        let mut each = |entry: &[u8]| readers.iter().for_each(|place| run.check(*place, &reading(entry, 0)));
+        let mut buf = Vec::new();
+        let mut each = |entry: &[u8]| {
+            readers.iter().for_each(|place| run.check(*place, &reading(entry, 0)));
+            buf.clear();
+            buf.extend_from_slice(entry);
+            buf.extend(BEHIND);
+            readers.iter().for_each(|place| run.check(*place, &reading(&buf, 0)));
+        };
         every_body(&[front, &[0x09]].concat(), &ALL, 3, &mut each);
         if longest {
             every_body(front, &ALL, 4, &mut each);
@@ -251,7 +266,9 @@ fn limits(run: &mut Comparison, places: &[usize; 3]) {
     for page in PAGES {
         for length in 1..=10 {
             for body in [reference(&[0x0E], &[0x88, 0x27], page), interior(&[0x14], page)] {
-                let buf = [&leb_in(body.len() as u64, length)[..], &body].concat();
+                let mut buf = [&leb_in(body.len() as u64, length)[..], &body].concat();
+                all(run, places, &buf, 0);
+                buf.extend(BEHIND);
                 all(run, places, &buf, 0);
             }
         }
@@ -263,24 +280,26 @@ fn good_ones(run: &mut Comparison, places: &[usize; 3]) {
     for round in 0..40 * run.scale {
         let body = some_body(&mut run.random);
         let good = framed(&body);
-        for before in [0, 1, 5] {
+        for (before, behind) in [(0, 3), (1, 3), (5, 3), (0, 30), (2, 30)] {
             let mut buf = run.random.bytes(before);
             buf.extend(&good);
-            buf.extend(run.random.bytes(3));
+            buf.extend(run.random.bytes(behind));
             for end in 0..=buf.len() {
                 all(run, places, &buf[..end], before);
             }
             (0..=buf.len() + 1).for_each(|pos| all(run, places, &buf, pos));
         }
         if round < 24 * run.scale {
-            let mut bad = [&good[..], &[0x80, 0x01]].concat();
-            for at in 0..good.len() {
-                let was = bad[at];
-                for byte in 0..=255 {
-                    bad[at] = byte;
-                    all(run, places, &bad, 0);
+            for behind in [&[0x80, 0x01][..], &BEHIND] {
+                let mut bad = [&good[..], behind].concat();
+                for at in 0..good.len() {
+                    let was = bad[at];
+                    for byte in 0..=255 {
+                        bad[at] = byte;
+                        all(run, places, &bad, 0);
+                    }
+                    bad[at] = was;
                 }
-                bad[at] = was;
             }
         }
     }
@@ -290,7 +309,7 @@ fn good_ones(run: &mut Comparison, places: &[usize; 3]) {
 fn some_buffer(random: &mut Random) -> (Vec<u8>, usize) {
     let mut buf = Vec::new();
     let mut starts = Vec::new();
-    for _ in 0..=random.below(3) {
+    for _ in 0..=random.below(5) {
         starts.push(buf.len());
         let body = some_body(random);
         let length = any_form(body.len() as u64, random);
@@ -331,8 +350,8 @@ fn writers(run: &mut Comparison) {
     }
 }
 
-/// For the record: short buffers of edges; each limit in the places of a rowid and of a total, whole and cut; left over and cut short; one damaged copy for each
-/// byte; all output sizes at the ends.
+/// For the record: short buffers of edges; each limit in the places of a rowid and of a total, whole, with room behind it, and cut; left over and cut short;
+/// damaged copies for each byte; all output sizes at the ends.
 fn sample(put: &mut dyn FnMut(&'static str, &Input)) {
     let mut limits: Vec<u64> = (0..=9).flat_map(|k| [-1, 0].map(|near| (1u64 << (7 * k)).wrapping_add_signed(near))).collect();
     limits.extend([7, 5000, i64::MAX as u64, u64::MAX - 1, u64::MAX]);
@@ -356,9 +375,11 @@ fn sample(put: &mut dyn FnMut(&'static str, &Input)) {
         }
         for at in 0..good.len() {
             for byte in [0x00, 0x05, 0x7F, 0x80, 0xFF] {
-                let mut bad = [good, &[0x00, 0x01][..]].concat();
-                bad[at] = byte;
-                read(&bad, 0);
+                for behind in [&[0x00, 0x01][..], &BEHIND] {
+                    let mut bad = [good, behind].concat();
+                    bad[at] = byte;
+                    read(&bad, 0);
+                }
             }
         }
     }
@@ -368,6 +389,7 @@ fn sample(put: &mut dyn FnMut(&'static str, &Input)) {
             let page = *random.pick(&PAGES);
             for body in [reference(form, &[0x05], page), reference(&[0x05], form, page), interior(form, page)] {
                 read(&framed(&body), 0);
+                read(&[&framed(&body)[..], &BEHIND].concat(), 0);
                 read(&framed(&body[..body.len() - 1]), 0);
                 read(&framed(&[&body[..], &[0]].concat()), 0);
                 read(&framed(&body[..1 + form.len() / 2]), 0);
