@@ -9,13 +9,14 @@
 #
 # These are passed on to rust/Makefile, and are no part of the gate:
 #
+#   make show          the product at work: a scan's row written, read, asked and damaged
 #   make differential  a long comparison with the originals (SEED, SCALE)
 #   make record        write the originals' answers anew for crates/replay
 #   make bench         times as ratios (ROUNDS)
 
 PARTS = scripts listed theorems layout prove rust
 
-.PHONY: test scripts listed theorems layout prove rust differential record bench
+.PHONY: test scripts listed theorems layout prove rust show differential record bench
 
 test:
 	@python3 -X utf8 tests/gate.py $(PARTS)
@@ -38,5 +39,5 @@ prove:
 rust:
 	@$(MAKE) -C rust test
 
-differential record bench:
+show differential record bench:
 	@$(MAKE) -C rust $@

@@ -167,7 +167,8 @@ fn plain_blocks(kinds: &[u8], words: &[u8], data: &[u8]) -> Measured
     Measured { refusal: 0, bytes }
 }
 
-// ---- the first reading, quick: no step hangs on a column's kind, so that nulls at random are not guessed wrong
+// ---- the first reading, quick: no jump hangs on a column's kind, so that nulls at random are not guessed wrong. Each test of a kind is
+// a function of its own, which is laid out as a choice between two numbers.
 
 // One value where the kind is this one, another elsewhere.
 fn for_kind(kind: u8, wanted: u8, value: u64, other: u64) -> u64
@@ -195,7 +196,7 @@ fn largest_word(kind: u8, left: usize) -> u64
     for_kind(kind, NULL, 0, for_kind(kind, tag::BOOL, 1, text))
 }
 
-// The tag, and the first byte behind it. The tests of a kind are functions, so that each is laid out as a choice between two numbers and not as a jump.
+// The tag, and the first byte behind it.
 fn first_bytes(kind: u8) -> usize
     ensures { λ r. ⌜ (r ≡ pick (ltb kind 4) 2 0) × (r ≤ 2) ⌝ }
 {
