@@ -27,7 +27,7 @@ use Rattle.overflow.specs.Reference.{referenceFrom}
 use Rattle.overflow.specs.Paged.{Paged, localPaged, referencePaged, pagedFrom}
 use Rattle.overflow.specs.Paper.{paperRef, paperPaged}
 use Rattle.overflow.specs.Words.{Placed}
-use Rattle.overflow.proofs.References.{reference-in-word, reference-past}
+use Rattle.overflow.proofs.References.{reference-in-word, reference-past, reference-whole}
 use Rattle.overflow.specs.declared.OverflowRef.{OverflowRef}
 use Rattle.overflow.specs.declared.DecodedRef.{DecodedRef}
 use Rattle.overflow.specs.declared.DecodedRef.the-variants as D
@@ -52,12 +52,12 @@ module _ (s : List ℕ) where
   as-overflow h n e = rw (← e)
 
   -- from the answer of the plain way
-  module _ {r : DecodedRef} (e : paperRef r ≡ referenceFrom s) where
+  module _ {r : DecodedRef} (e : paperRef r ≡ referenceFrom (take (length s - 0) (drop 0 s))) where
     pub paged-plain : {h : OverflowRef} {n : ℕ} → r ≡ D.Reference h n → paperPaged (P.Overflow h n) ≡ referencePaged s
-    paged-plain {h} {n} d = as-overflow h n (rw d at e)
+    paged-plain {h} {n} d = as-overflow h n (rw d at (reference-whole s e))
 
     pub paged-plain-refused : {k : ℕ} → r ≡ D.Refused k → paperPaged (P.Refused k) ≡ referencePaged s
-    paged-plain-refused {k} d = as-refused k (rw d at e)
+    paged-plain-refused {k} d = as-refused k (rw d at (reference-whole s e))
 
   module _ {v n w m place : ℕ} (first : InWord (take (length s - 2) (drop 2 s)) v n)
       (second : InWord (take (length s - (2 + n)) (drop (2 + n) s)) w m) (placed : Placed s n m place) where

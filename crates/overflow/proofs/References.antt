@@ -140,6 +140,10 @@ module _ (s : List ℕ) (pos : ℕ) where
   pub reference-at : {a : Answer ((ℤ × ℕ × ℕ) × ℕ)} → a ≡ referenceFrom (take (length s - pos) (drop pos s)) → a ≡ referenceFrom (drop pos s)
   reference-at e = rw (take-all (length s - pos) (drop pos s) (le-of-eq (length-drop pos s))) at e
 
+-- the whole as a part of itself
+pub reference-whole : (s : List ℕ) {a : Answer ((ℤ × ℕ × ℕ) × ℕ)} → a ≡ referenceFrom (take (length s - 0) (drop 0 s)) → a ≡ referenceFrom s
+reference-whole s e = reference-at s 0 e
+
 pub ruleset references = (
   paper,
   going-start,

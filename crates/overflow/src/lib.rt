@@ -129,7 +129,7 @@ fn page_place(s: &[u8], rowid: Scanned, total: Scanned) -> usize
 }
 
 // Where the longest reference has room and each number ends within a word, each part is read at its place and no byte of a number is
-// branched on. Anything else goes the plain way.
+// branched on. Anything else goes the plain way, which is lent a part of its own: so only that way lays the slice out in memory.
 fn decode_from(s: &[u8]) -> DecodedRef
     ensures { λ r. ⌜ paperRef r ≡ referenceFrom (now (s .entry)) ⌝ }
 {
@@ -149,7 +149,7 @@ fn decode_from(s: &[u8]) -> DecodedRef
             );
         }
     }
-    plain_from(s)
+    plain_from(&s[0..])
 }
 
 // Reads the overflow reference at `pos`.
@@ -200,7 +200,7 @@ fn reference_from(s: &[u8]) -> PagedEntry
             );
         }
     }
-    let plain = plain_from(s);
+    let plain = plain_from(&s[0..]);
     match plain {
         DecodedRef::Reference(reference, bytes) => PagedEntry::Overflow(reference, bytes),
         DecodedRef::Refused(k) => PagedEntry::Refused(k),

@@ -7,7 +7,7 @@ use mathlib.Core.List.{List, [], _∷_}
 use Prim.Native.Nat.{ℕ, zero, suc, zero-le, suc-le-suc, _+_, _-_, _*_, _/_, _%_, _^_, _≤_, _<_}
 use native.Mathlib.Nat.{le-of-suc-le-suc, mod-eq-of-lt}
 use native.Mathlib.Omega.{arith}
-use lib.Bits.{bitAnd, bitXor, and-le-l, and-block, and-mask, and-high, xor-block, xor-self, shifted-half, shifted-even}
+use lib.Bits.{bitAnd, and-zero-r, and-le-l, and-le-r, and-self, and-block, and-mask, and-high, shifted-half, shifted-even}
 use lib.Count.{trailingZeros, trailing-le}
 use lib.Dec.{ltb}
 use lib.ListN.{length, getD}
@@ -25,18 +25,11 @@ use Rattle.varint.specs.Word.{groupsAt, ClosesUp, InWord}
 
 -- ---- a word is a byte, and the word of the bytes behind it
 
-module _ (a b x y : ℕ) (p : a < 256) (q : b < 256) where
-  and-byte : bitAnd (a + 256 * x) (b + 256 * y) ≡ bitAnd a b + 256 * bitAnd x y
-  and-byte =
-      let e : a + 256 * x ≡ x * 2 ^ 8 + a = omega arith in
-      let f : b + 256 * y ≡ y * 2 ^ 8 + b = omega arith in
-      rw (e, f, and-block 8 x y a b p q) (omega arith)
-
-  xor-byte : bitXor (a + 256 * x) (b + 256 * y) ≡ bitXor a b + 256 * bitXor x y
-  xor-byte =
-      let e : a + 256 * x ≡ x * 2 ^ 8 + a = omega arith in
-      let f : b + 256 * y ≡ y * 2 ^ 8 + b = omega arith in
-      rw (e, f, xor-block 8 x y a b p q) (omega arith)
+and-byte : (a b x y : ℕ) → a < 256 → b < 256 → bitAnd (a + 256 * x) (b + 256 * y) ≡ bitAnd a b + 256 * bitAnd x y
+and-byte a b x y p q =
+    let e : a + 256 * x ≡ x * 2 ^ 8 + a = omega arith in
+    let f : b + 256 * y ≡ y * 2 ^ 8 + b = omega arith in
+    rw (e, f, and-block 8 x y a b p q) (omega arith)
 
 -- n bytes m
 marks : ℕ → ℕ → ℕ
@@ -111,35 +104,36 @@ unfolding taken pick andThen
 taken-on n zero b s bs h r l = absurd (omega arith)
 taken-on n (suc k) b s bs h r l = rw (le-ltb b 128 h, r k (le-of-suc-le-suc l))
 
--- what the word w holds up to the lowest bit of e, of the bits l
+-- the bits above the low seven and those are none together
+high-low : (n x : ℕ) → bitAnd (bitAnd x (marks 128 n)) (marks 127 n) ≡ 0
+unfolding marks
+high-low zero x = and-zero-r (bitAnd x 0)
+high-low (suc n) x =
+    let e : x ≡ x % 256 + 256 * (x / 256) = omega arith in
+    let h : bitAnd (x % 256) 128 ≡ x % 256 / 2 ^ 7 % 2 ^ 1 * 2 ^ 7 = and-high (x % 256) 1 7 in
+    let z : bitAnd (bitAnd (x % 256) 128) 127 ≡ 0 = and-mask (bitAnd (x % 256) 128) 7 ∙ omega arith in
+    let a : bitAnd x (128 + 256 * marks 128 n) ≡ bitAnd (x % 256) 128 + 256 * bitAnd (x / 256) (marks 128 n)
+    = ap (λ (y : ℕ). bitAnd y (128 + 256 * marks 128 n)) e ∙ and-byte (x % 256) 128 (x / 256) (marks 128 n) (omega arith) (omega arith) in
+    rw (a, and-byte (bitAnd (x % 256) 128) 127 (bitAnd (x / 256) (marks 128 n)) (marks 127 n) (omega (arith, and-le-r (x % 256) 128)) (omega arith), z, high-low n (x / 256))
+
+-- what the word w holds below the lowest bit of e, of the bits l
 abbrev keptOf : ℕ → ℕ → ℕ → ℕ
-keptOf w e l = bitAnd (bitAnd w (bitXor e (e - 1))) l
+keptOf w e l = bitAnd w (bitAnd (e - 1) l)
 
 module _ (b w e l : ℕ) (small : b < 256) where
-  kept-here : keptOf (b + 256 * w) (128 + 256 * e) (127 + 256 * l) ≡ b % 128
-  kept-here =
+  kept-here : bitAnd e l ≡ 0 → keptOf (b + 256 * w) (128 + 256 * e) (127 + 256 * l) ≡ b % 128
+  kept-here z =
       let d : 128 + 256 * e - 1 ≡ 127 + 256 * e = omega arith in
-      let m : bitXor (128 + 256 * e) (127 + 256 * e) ≡ 255
-      = xor-byte 128 127 e e (omega arith) (omega arith) ∙ ap (λ (x : ℕ). 255 + 256 * x) (xor-self e) in
-      let f : (b + 256 * w) % 256 ≡ b + 256 * 0 = omega arith in
-      let g : bitAnd (b + 256 * w) 255 ≡ b + 256 * 0 = and-mask (b + 256 * w) 8 ∙ f in
-      let k : bitAnd (b + 256 * 0) (127 + 256 * l) ≡ b % 128 + 256 * 0
-      = and-byte b 127 0 l small (omega arith) ∙ ap (λ (x : ℕ). x + 256 * 0) (and-mask b 7) in
-      rw (d, m, g, k) (omega arith)
+      let m : bitAnd (127 + 256 * e) (127 + 256 * l) ≡ 127
+      = and-byte 127 127 e l (omega arith) (omega arith) ∙ rw (z, and-self 127) in
+      rw (d, m) (and-mask (b + 256 * w) 7 ∙ omega arith)
 
   kept-later : (e ≡ 0 → ⊥) → keptOf (b + 256 * w) (256 * e) (127 + 256 * l) ≡ b % 128 + 256 * keptOf w e l
   kept-later some =
-      let c : 256 * e ≡ 0 + 256 * e = omega arith in
       let d : 256 * e - 1 ≡ 255 + 256 * (e - 1) = omega arith in
-      let m : bitXor (0 + 256 * e) (255 + 256 * (e - 1)) ≡ 255 + 256 * bitXor e (e - 1)
-      = xor-byte 0 255 e (e - 1) (omega arith) (omega arith) in
-      let g : bitAnd (b + 256 * w) (255 + 256 * bitXor e (e - 1)) ≡ b + 256 * bitAnd w (bitXor e (e - 1))
-      = and-byte b 255 w (bitXor e (e - 1)) small (omega arith)
-      ∙ ap (λ (x : ℕ). x + 256 * bitAnd w (bitXor e (e - 1))) (and-mask b 8 ∙ mod-eq-of-lt small) in
-      let k : bitAnd (b + 256 * bitAnd w (bitXor e (e - 1))) (127 + 256 * l) ≡ b % 128 + 256 * keptOf w e l
-      = and-byte b 127 (bitAnd w (bitXor e (e - 1))) l small (omega arith)
-      ∙ ap (λ (x : ℕ). x + 256 * keptOf w e l) (and-mask b 7) in
-      ap (λ (x : ℕ). bitAnd (bitAnd (b + 256 * w) x) (127 + 256 * l)) (ap₂ bitXor c d ∙ m) ∙ ap (λ (x : ℕ). bitAnd x (127 + 256 * l)) g ∙ k
+      let m : bitAnd (255 + 256 * (e - 1)) (127 + 256 * l) ≡ 127 + 256 * bitAnd (e - 1) l
+      = and-byte 255 127 (e - 1) l (omega arith) (omega arith) ∙ ap (λ (x : ℕ). x + 256 * bitAnd (e - 1) l) (and-mask 255 7) in
+      rw (d, m) (and-byte b 127 w (bitAnd (e - 1) l) small (omega arith) ∙ ap (λ (x : ℕ). x + 256 * keptOf w e l) (and-mask b 7))
 
 zeros-here : (n e : ℕ) → trailingZeros (8 * suc n) (128 + 256 * e) ≡ 7
 zeros-here n e =
@@ -164,7 +158,7 @@ record Ended (n : ℕ) (s : List ℕ) : Type 0 where
 
 module _ (n b : ℕ) (s : List ℕ) (f : Bytes s) (small : b < 256) where
   ended-here : b < 128 → Ended (suc n) (b ∷ s)
-  unfolding marks
+  unfolding ends marks
   ended-here h =
       let e : ends (suc n) (b ∷ s) ≡ 128 + 256 * ends n s = ends-cons n b s f small ∙ ap (λ (x : ℕ). x + 256 * ends n s) (end-bit b h) in
       let g : groupsAt 256 n 1 (b ∷ []) ≡ 0 = groups-cons 256 n 0 b [] ∙ groups-none 256 n 0 in
@@ -173,7 +167,7 @@ module _ (n b : ℕ) (s : List ℕ) (f : Bytes s) (small : b < 256) where
         read = λ k l. taken-end k b s h (omega (arith, l));
         most = suc-le-suc zero-le;
         zeros = rw (e, zeros-here n (ends n s));
-        kept = rw (e, le-cons n b s, kept-here b (le n 0 s) (ends n s) (marks 127 n) small, g) (omega arith);
+        kept = rw (e, le-cons n b s, kept-here b (le n 0 s) (ends n s) (marks 127 n) small (high-low n (marks 255 n - le n 0 s)), g) (omega arith);
       }
 
   no-end : 128 ≤ b → ends (suc n) (b ∷ s) ≡ 256 * ends n s
@@ -227,13 +221,13 @@ found-read s bs t o m e f =
 module _ (s : List ℕ) (f : Bytes s) (l : 8 ≤ length s) {w : ℕ} (e : w ≡ le 8 0 s) where
   pub word-found : {v : ℕ} → (bitAnd (2 ^ 64 - 1 - w) 0x8080_8080_8080_8080 ≡ 0 → ⊥)
       → ClosesUp (keptOf w (bitAnd (2 ^ 64 - 1 - w) 0x8080_8080_8080_8080) 0x7F7F_7F7F_7F7F_7F7F) v → Fits w64 v
-      → InWord s v ((trailingZeros 64 (bitAnd (2 ^ 64 - 1 - w) 0x8080_8080_8080_8080) + 1) / 8)
+      → InWord s v (trailingZeros 64 (bitAnd (2 ^ 64 - 1 - w) 0x8080_8080_8080_8080) / 8 + 1)
   unfolding ends marks
   word-found {v} h c k =
       let d : bitAnd (2 ^ 64 - 1 - w) 0x8080_8080_8080_8080 ≡ ends 8 s = ap (λ (x : ℕ). bitAnd (2 ^ 64 - 1 - x) 0x8080_8080_8080_8080) e in
       let r = ended 8 s f l (rw d at h) in
       let z : trailingZeros 64 (ends 8 s) + 1 ≡ 8 * length (r .bytes) = r .zeros in
-      let n : (trailingZeros 64 (ends 8 s) + 1) / 8 ≡ length (r .bytes) = omega arith in
+      let n : trailingZeros 64 (ends 8 s) / 8 + 1 ≡ length (r .bytes) = omega arith in
       let o : v ≡ groupsAt 128 8 0 (r .bytes) = c .same (r .bytes) (rw (d, e) (r .kept)) in
       let g : v ≡ sumFrom 0 (r .bytes) = o ∙ omega (arith, sum-groups 8 0 (r .bytes) (r .most)) in
       let q : v < 2 ^ 64 = k .fits in
@@ -265,7 +259,7 @@ abbrev twosOf : ℕ → ℕ
 twosOf x = x - bitAnd x 0x7F00_7F00_7F00_7F00 / 2
 
 abbrev foursOf : ℕ → ℕ
-foursOf x = x - bitAnd x 0x3FFF_0000_3FFF_0000 + bitAnd x 0x3FFF_0000_3FFF_0000 / 4
+foursOf x = x - bitAnd x 0x3FFF_0000_3FFF_0000 / 4 * 3
 
 abbrev eightOf : ℕ → ℕ
 eightOf x = x % 0x1_0000_0000 + x / 0x1_0000_0000 * 0x1000_0000
@@ -317,15 +311,21 @@ closes-up x = record { same = λ s e. rw e (bytes-close _ _ _ _ _ _ _ _ (low s 0
 pub half-below : (x m : ℕ) → bitAnd x m / 2 ≤ x
 half-below x m = let l = and-le-l x m in omega arith
 
+pub most-below : (x m : ℕ) → bitAnd x m / 4 * 3 ≤ x
+most-below x m = let l = and-le-l x m in omega arith
+
 module _ (x : ℕ) (f : Fits w64 x) where
+  pub most-fits : (m : ℕ) → Fits w64 (bitAnd (twosOf x) m / 4 * 3)
+  most-fits m =
+      let l = and-le-l (twosOf x) m in
+      let b = f .fits in
+      record { fits = omega arith }
+
   fours-below : foursOf (twosOf x) < 2 ^ 64
   fours-below =
       let l = and-le-l (twosOf x) 0x3FFF_0000_3FFF_0000 in
       let b = f .fits in
       omega arith
-
-  pub fours-fit : Fits w64 (foursOf (twosOf x))
-  fours-fit = record { fits = fours-below }
 
   pub upper-fits : Fits w64 (foursOf (twosOf x) / 0x1_0000_0000 * 0x1000_0000)
   upper-fits = let l = fours-below in record { fits = omega arith }
@@ -336,7 +336,7 @@ module _ (x : ℕ) (f : Fits w64 x) where
 pub zeros-fit : (x : ℕ) → Fits w64 (trailingZeros 64 x)
 zeros-fit x = record { fits = omega (arith, trailing-le 64 x) }
 
-pub zeros-bytes : (x : ℕ) → Fits w64 (trailingZeros 64 x + 1)
+pub zeros-bytes : (x : ℕ) → Fits w64 (trailingZeros 64 x / 8 + 1)
 zeros-bytes x = record { fits = omega (arith, trailing-le 64 x) }
 
-pub ruleset words = (paper, half-below, and-le-l, fours-fit, upper-fits, eight-fits, zeros-fit, zeros-bytes, closes-up, word-open, word-found)
+pub ruleset words = (paper, half-below, most-below, most-fits, upper-fits, eight-fits, zeros-fit, zeros-bytes, closes-up, word-open, word-found)

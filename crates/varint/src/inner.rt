@@ -113,8 +113,7 @@ fn closed_up(groups: u64) -> u64
     ensures { λ r. ⌜ ClosesUp groups r ⌝ }
 {
     let twos = groups - (groups & 0x7F00_7F00_7F00_7F00) / 2;
-    let odd = twos & 0x3FFF_0000_3FFF_0000;
-    let fours = twos - odd + odd / 4;
+    let fours = twos - (twos & 0x3FFF_0000_3FFF_0000) / 4 * 3;
     fours % 0x1_0000_0000 + fours / 0x1_0000_0000 * 0x1000_0000
 }
 
@@ -131,12 +130,11 @@ pub fn in_word(s: &[u8]) -> Scanned
         return Scanned { value: 0, taken: 0 };
     }
     let zeros = u64::trailing_zeros(ends) as usize;
-    // What stands up to the first end.
-    let upto = ends ^ (ends - 1);
-    let value = closed_up(word & upto & LOW);
+    // The low bits up to the first end.
+    let upto = (ends - 1) & LOW;
     Scanned {
-        value,
-        taken: (zeros + 1) / 8,
+        value: closed_up(word & upto),
+        taken: zeros / 8 + 1,
     }
 }
 

@@ -1,5 +1,6 @@
 -- `overflow::decode_from` meets its contract. Assumes nothing.
-use Rattle.overflow.proofs.References.{references}
+use Rattle.paper.proofs.Laws.{paper}
+use Rattle.overflow.proofs.References.{reference-whole, references}
 use Rattle.overflow.proofs.decode_from.Statement.{statement}
 use Rattle.overflow.proofs.decode_from.Tie as tie
 
@@ -24,5 +25,8 @@ decode-from-spec =
     (λ c κs. search references)
     (λ c. search references)
     (λ c. search references)
+    (λ c. search references)
+    (λ c. search references)
+    (λ c. search references)
     (λ c κs. search references)
-    (λ c. search references))
+    (λ c. search (reference-whole, paper)))
