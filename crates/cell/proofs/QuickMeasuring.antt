@@ -10,7 +10,7 @@ use mir.Syntax.{w8, w64}
 use mir.Val.{Fits, toZ}
 use Rattle.paper.proofs.Laws.{paper}
 use Rattle.paper.specs.Answer.{Answer, gives, pick}
-use Rattle.varint.specs.Leb.{lebBytes}
+use Rattle.varint.specs.Leb.{groups, lebBytes}
 use Rattle.varint.specs.Zigzag.{zigzag}
 use Rattle.utf8.specs.Ascii.{Plain}
 use Rattle.utf8.specs.WellFormed.{checkText, wellFormed}
@@ -68,14 +68,18 @@ zero-len : length (lebBytes 0) ≡ 1
 unfolding lebBytes
 zero-len = rw (groups-last 9 0 (omega arith))
 
+eight-len : length (lebBytes 0x2_0000_0000_0000) ≡ 8
+unfolding lebBytes groups pick
+eight-len = refl
+
 module _ (kind word : ℕ) (c : Common kind) where
   pub text-used : {t : ℕ} → t ≡ pick (eqb kind 2) word 0 → t ≡ used kind word
   unfolding used pick
   text-used {t} e =
       by-kind (λ k. t ≡ pick (eqb k 2) word 0 → t ≡ used k word) (λ e. e) (λ e. e) (λ e. e) (λ e. e) (λ e. e) kind c e
 
-  pub quick-fits : {f s l t : ℕ} → f ≤ 2 → s ≤ 7 → l ≤ 10 → t ≡ pick (eqb kind 2) word 0 → used kind word ≤ 16777216 → Fits w64 (f + s + (l - 1) + t)
-  quick-fits f s l e u = record { fits = omega (arith, text-used e) }
+  pub quick-fits : {f l t : ℕ} → f ≤ 2 → l ≤ 10 → t ≡ pick (eqb kind 2) word 0 → used kind word ≤ 16777216 → Fits w64 (f + (l - 1) + t)
+  quick-fits f l e u = record { fits = omega (arith, text-used e) }
 
   most : blockLen kind word ≤ 11 + used kind word
   unfolding blockLen used pick
@@ -83,24 +87,24 @@ module _ (kind word : ℕ) (c : Common kind) where
       by-kind (λ k. blockLen k word ≤ 11 + used k word)
       (omega (arith, leb-most (zigzag (toZ w64 word)))) (omega arith) (omega (arith, leb-most word)) (omega arith) (omega arith) kind c
 
-  module _ {f s a v t l : ℕ} (ef : f ≡ pick (ltb kind 4) 2 0) (es : s ≡ pick (eqb kind 1) 7 0) (ev : v ≡ zigzag (toZ w64 word))
-      (et : t ≡ pick (eqb kind 2) word 0) (ea : a ≡ pick (eqb kind 0) v t) (el : l ≡ length (lebBytes a)) where
-    no-number : a ≡ t → t ≡ 0 → l ≡ 1
-    no-number ea et = el ∙ rw (ea, et, zero-len)
+  module _ {f a v r t l : ℕ} (ef : f ≡ pick (ltb kind 4) 2 0) (ev : v ≡ zigzag (toZ w64 word))
+      (et : t ≡ pick (eqb kind 2) word 0) (er : r ≡ pick (eqb kind 1) 0x2_0000_0000_0000 t) (ea : a ≡ pick (eqb kind 0) v r) (el : l ≡ length (lebBytes a)) where
+    no-number : a ≡ r → r ≡ t → t ≡ 0 → l ≡ 1
+    no-number ea er et = el ∙ rw (ea, er, et, zero-len)
 
-    pub quick-length : f + s + (l - 1) + t ≡ blockLen kind word
+    pub quick-length : f + (l - 1) + t ≡ blockLen kind word
     unfolding blockLen used pick
     quick-length =
         by-kind
-        (λ k. f ≡ pick (ltb k 4) 2 0 → s ≡ pick (eqb k 1) 7 0 → t ≡ pick (eqb k 2) word 0 → a ≡ pick (eqb k 0) v t → f + s + (l - 1) + t ≡ blockLen k word)
-        (λ ef es et ea. let e : l ≡ length (lebBytes (zigzag (toZ w64 word))) = rw (ea, ev) at el in omega (arith, number-some (zigzag (toZ w64 word)) e))
-        (λ ef es et ea. omega (arith, no-number ea et))
-        (λ ef es et ea. let e : l ≡ length (lebBytes word) = rw (ea, et) at el in omega (arith, number-some word e))
-        (λ ef es et ea. omega (arith, no-number ea et))
-        (λ ef es et ea. omega (arith, no-number ea et))
-        kind c ef es et ea
+        (λ k. f ≡ pick (ltb k 4) 2 0 → t ≡ pick (eqb k 2) word 0 → r ≡ pick (eqb k 1) 0x2_0000_0000_0000 t → a ≡ pick (eqb k 0) v r → f + (l - 1) + t ≡ blockLen k word)
+        (λ ef et er ea. let e : l ≡ length (lebBytes (zigzag (toZ w64 word))) = rw (ea, ev) at el in omega (arith, number-some (zigzag (toZ w64 word)) e))
+        (λ ef et er ea. let e : l ≡ 8 = el ∙ rw (ea, er, eight-len) in omega arith)
+        (λ ef et er ea. let e : l ≡ length (lebBytes word) = rw (ea, er, et) at el in omega (arith, number-some word e))
+        (λ ef et er ea. omega (arith, no-number ea er et))
+        (λ ef et er ea. omega (arith, no-number ea er et))
+        kind c ef et er ea
 
-    pub quick-within : f + s + (l - 1) + t ≤ 11 + used kind word
+    pub quick-within : f + (l - 1) + t ≤ 11 + used kind word
     quick-within = rw quick-length most
 
 -- ---- the loop

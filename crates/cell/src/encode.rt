@@ -203,12 +203,8 @@ fn first_bytes(kind: u8) -> usize
     if kind < 4 { 2 } else { 0 }
 }
 
-// The other bytes of a real.
-fn real_bytes(kind: u8) -> usize
-    ensures { λ r. ⌜ (r ≡ pick (eqb kind 1) 7 0) × (r ≤ 7) ⌝ }
-{
-    if kind == tag::REAL { 7 } else { 0 }
-}
+// A number of eight bytes, as many as a real has.
+const AS_LONG_AS_A_REAL: u64 = 0x2_0000_0000_0000;
 
 // As `block_len`, without the kinds that are strange. The first byte of a number is counted with the tag.
 fn quick_len(kind: u8, word: u64) -> usize
@@ -216,8 +212,9 @@ fn quick_len(kind: u8, word: u64) -> usize
     ensures { λ r. ⌜ (r ≡ blockLen kind word) × (r ≤ 11 + used kind word) ⌝ }
 {
     let text = for_kind(kind, tag::TEXT, word, 0);
-    let number = for_kind(kind, tag::INTEGER, varint::inner::zigzag_bits(word), text);
-    first_bytes(kind) + real_bytes(kind) + (varint_len(number) - 1) + text as usize
+    let real = for_kind(kind, tag::REAL, AS_LONG_AS_A_REAL, text);
+    let number = for_kind(kind, tag::INTEGER, varint::inner::zigzag_bits(word), real);
+    first_bytes(kind) + (varint_len(number) - 1) + text as usize
 }
 
 // The value blocks of all columns, or 2^63 where it is not known.

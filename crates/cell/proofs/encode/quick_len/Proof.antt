@@ -8,5 +8,5 @@ quick-len-spec =
     tie.close
     (tie.spec
     (λ c κs. search quickly) (λ c κs. search quickly) (λ c κs. search quickly) (λ c κs. search quickly)
-    (λ c κs. search quickly) (λ c. search quickly) (λ c κs. search quickly) (λ c. search quickly) (λ c. search quickly)
-    (λ c. search quickly) (λ c. search quickly))
+    (λ c κs. search quickly) (λ c κs. search quickly) (λ c. search quickly) (λ c. search quickly) (λ c. search quickly)
+    (λ c. search quickly))
