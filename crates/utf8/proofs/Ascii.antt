@@ -121,15 +121,11 @@ module _ (s : List ℕ) (f : Bytes s) (a b c d : ℕ) (ea : a ≡ le 8 0 s)
       (later 16 c ec (right (bitOr a b) c abc)))
       (later 24 d ed (right (bitOr (bitOr a b) c) d abcd))
 
-module _ (n m : ℕ) (s : List ℕ) (a b : ℕ) (f : bitAnd a HIGH ≡ 0 → Ascii n s) (g : bitAnd b HIGH ≡ 0 → Ascii m (onward n s)) where
-  pub joined-ascii : bitAnd (bitOr a b) HIGH ≡ 0 → Ascii (n + m) s
-  joined-ascii e = more n m s (f (left a b e)) (rw (onward-is n s) at (g (right a b e)))
-
-  pub joined-plain : eqb (bitAnd (bitOr a b) HIGH) 0 ≡ true → Ascii (n + m) s
-  joined-plain t = joined-ascii (eqb-true (bitAnd (bitOr a b) HIGH) 0 t)
-
-pub none-plain : (n : ℕ) (s : List ℕ) (a : ℕ) → (bitAnd a HIGH ≡ 0 → Ascii n s) → eqb (bitAnd a HIGH) 0 ≡ true → Ascii n s
-none-plain n s a f t = f (eqb-true (bitAnd a HIGH) 0 t)
+pub plain8-ascii : (s : List ℕ) (a b : ℕ) → (bitAnd a HIGH ≡ 0 → Ascii 32 s) → (bitAnd b HIGH ≡ 0 → Ascii 32 (onward 32 s))
+    → eqb (bitAnd (bitOr a b) HIGH) 0 ≡ true → Ascii 64 s
+plain8-ascii s a b f g t =
+    let e = eqb-true (bitAnd (bitOr a b) HIGH) 0 t in
+    more 32 32 s (f (left a b e)) (rw (onward-is 32 s) at (g (right a b e)))
 
 -- ---- ASCII is passed over
 

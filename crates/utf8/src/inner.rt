@@ -30,26 +30,12 @@ fn four_words(s: &[u8]) -> u64
     u64_at(s) | u64_at(&s[8..]) | u64_at(&s[16..]) | u64_at(&s[24..])
 }
 
-// Of eight.
-fn eight_words(s: &[u8]) -> u64
-    requires { ⌜ 64 ≤ length (now s) ⌝ }
-    ensures { λ r. ⌜ (bitAnd r 0x8080_8080_8080_8080 ≡ 0 → Ascii 64 (now (s .entry))) ⌝ }
-{
-    four_words(s) | four_words(&s[32..])
-}
-
+// Eight words.
 fn plain8(s: &[u8]) -> bool
     requires { ⌜ 64 ≤ length (now s) ⌝ }
     ensures { λ r. ⌜ (r ≡ true → Ascii 64 (now (s .entry))) ⌝ }
 {
-    eight_words(s) & HIGH == 0
-}
-
-fn plain16(s: &[u8]) -> bool
-    requires { ⌜ 128 ≤ length (now s) ⌝ }
-    ensures { λ r. ⌜ (r ≡ true → Ascii 128 (now (s .entry))) ⌝ }
-{
-    (eight_words(s) | eight_words(&s[64..])) & HIGH == 0
+    (four_words(s) | four_words(&s[32..])) & HIGH == 0
 }
 
 // Passes over whole words of ASCII from this place on.
@@ -58,12 +44,6 @@ fn past_ascii(s: &[u8], from: usize) -> usize
     ensures { λ r. ⌜ Plain (now (s .entry)) from r ⌝ }
 {
     let mut i = from;
-    while 128 <= s.len() - i {
-        if !plain16(&s[i..]) {
-            break;
-        }
-        i += 128;
-    }
     while 64 <= s.len() - i {
         if !plain8(&s[i..]) {
             break;

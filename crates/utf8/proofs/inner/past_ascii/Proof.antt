@@ -1,4 +1,4 @@
--- `utf8::inner::past_ascii` meets its contract. The invariant of all three loops: all before i is ASCII.
+-- `utf8::inner::past_ascii` meets its contract. The invariant of both loops: all before i is ASCII.
 -- Assumes nothing.
 use Prim.Native.Nat.{_-_}
 use native.Mathlib.Omega.{arith}
@@ -15,14 +15,10 @@ past-ascii-spec =
     tie.close
     (tie.spec (λ s from i₀ i. Plain s from i) (λ s from i₀ i. length s - i)
     (λ s from i₀ i. Plain s from i) (λ s from i₀ i. length s - i)
-    (λ s from i₀ i. Plain s from i) (λ s from i₀ i. length s - i)
     (λ c. plain-none _ _ (search needs)) (λ c. search needs) (λ c. search needs) (λ c. search needs) (λ c. search needs)
     (λ c κs. search needs) (λ c. search needs) (λ c. search needs)
-    (λ c. plain-more 128 (c .before .before .before .before .loop .inv) (omega arith) _ (c .before .plain16 .ensures) (not-false _ (c .if1 .left)))
-    (λ c. search needs) (λ c. search needs) (λ c. search needs) (λ c. search needs) (λ c. search needs) (λ c κs. search needs)
-    (λ c. search needs) (λ c. search needs)
-    (λ c. plain-more 64 (c .before .before .before .before .loop2 .inv) (omega arith) _ (c .before .plain8 .ensures) (not-false _ (c .if2 .left)))
+    (λ c. plain-more 64 (c .before .before .before .before .loop .inv) (omega arith) _ (c .before .plain8 .ensures) (not-false _ (c .if1 .left)))
     (λ c. search needs) (λ c. search needs) (λ c. search needs) (λ c. search needs) (λ c. search needs) (λ c κs. search needs)
     (λ c. search needs) (λ c. search needs) (λ c. search needs)
-    (λ c. plain-more 8 (c .before .before .before .before .loop3 .inv) (omega arith) _ (c .before .plain .ensures) (not-false _ (c .if3 .left)))
+    (λ c. plain-more 8 (c .before .before .before .before .loop2 .inv) (omega arith) _ (c .before .plain .ensures) (not-false _ (c .if2 .left)))
     (λ c. search needs))
