@@ -7,7 +7,7 @@ use Prim.Native.Nat.{ℕ, zero, suc, _+_, _-_, _*_, _/_, _≤_, _<_}
 use native.Mathlib.Omega.{arith}
 use lib.Dec.{eqb}
 use lib.ListN.{length, take, drop, length-append, length-drop}
-use lib.Seq.{length-take-le}
+use lib.Seq.{length-take-le, take-length}
 use mir.Syntax.{w64}
 use mir.Val.{toZ}
 use borrow.Author.Tests.{lt-ltb, le-ltb, ne-eqb}
@@ -17,6 +17,8 @@ use Rattle.field.proofs.Storing.{length-bytes}
 use Rattle.varint.specs.Leb.{lebBytes, lenU64}
 use Rattle.varint.specs.Zigzag.{zigzag}
 use Rattle.utf8.specs.WellFormed.{checkText, wellFormed}
+use Rattle.utf8.specs.Ascii.{Plain}
+use Rattle.utf8.proofs.Ascii.{plain-part}
 use Rattle.utf8.specs.Checked.{paperChecked}
 use Rattle.utf8.specs.declared.Checked.{Checked}
 use Rattle.utf8.specs.declared.Checked.the-variants as C
@@ -72,6 +74,10 @@ block-length (suc (suc (suc (suc (suc kind))))) word rest l =
     ∙ len-none (suc (suc (suc (suc (suc kind))))) word b
 
 -- ---- text
+pub text-ascii : (s : List ℕ) → Plain s 0 (length s) → judged 0 tt ≡ checkText s
+unfolding judged checkText pick
+text-ascii s p = let e : wellFormed s ≡ true = ap wellFormed (sym (take-length s)) ∙ plain-part p (length s) 0 in rw e
+
 module _ (s : List ℕ) {r : Checked} where
   pub text-good : paperChecked r ≡ checkText s → r ≡ C.Text → judged 0 tt ≡ checkText s
   unfolding judged pick paperChecked

@@ -78,10 +78,13 @@ fn block_len(kind: u8, word: u64) -> usize
     1 + varint_len(word) + data_used(kind, word)
 }
 
-// 8, or 0 where the bytes are a text.
+// 8, or 0 where the bytes are a text. Beside vectors and texts of other letters most are ASCII still.
 fn text_refusal(s: &[u8]) -> u8
     ensures { λ r. ⌜ judged r tt ≡ checkText (now (s .entry)) ⌝ }
 {
+    if utf8::inner::all_ascii(s) {
+        return 0;
+    }
     match utf8::check(s) {
         utf8::Checked::Text => 0,
         utf8::Checked::Refused(_) => 8,
