@@ -1,12 +1,11 @@
 -- Eight to sixteen bytes, copied by two words that may meet.
 -- Assumes nothing.
-use mathlib.Core.Path.{_≡_, refl, sym, _∙_, ap}
+use mathlib.Core.Path.{_≡_, _∙_, ap}
 use mathlib.Core.List.{List, _++_, append-assoc}
 use Prim.Native.Nat.{ℕ, _+_, _-_, _≤_, _<_}
-use native.Mathlib.Nat.{zero-add}
 use native.Mathlib.Omega.{arith}
-use lib.ListN.{length, take, drop, getD, length-append, length-drop, take-append-drop}
-use lib.Seq.{length-take-le, take-all, take-take, take-append-le, drop-append-add, drop-drop, getD-drop}
+use lib.ListN.{length, take, drop, getD, length-drop, take-append-drop}
+use lib.Seq.{length-take-le, take-all, take-take, take-append-le, drop-append-add, drop-drop}
 use mir.Syntax.{w8}
 use mir.Val.{Fits}
 use borrow.Rule.Slice.PartMut.{putMid}

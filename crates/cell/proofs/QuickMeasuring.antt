@@ -1,6 +1,6 @@
 -- The quick reading of a value list: where its numbers are 0 the column is good, and the lengths are those of the plain reading.
 -- Assumes nothing.
-use mathlib.Core.Path.{_≡_, refl, sym, subst, _∙_}
+use mathlib.Core.Path.{_≡_, refl, subst, _∙_}
 use mathlib.Core.List.{List}
 use Prim.Native.Nat.{ℕ, zero, suc, _+_, _-_, _*_, _/_, _%_, _^_, _≤_, _<_}
 use native.Mathlib.Omega.{arith}
@@ -9,11 +9,11 @@ use lib.ListN.{length, take, drop, getD}
 use mir.Syntax.{w8, w64}
 use mir.Val.{Fits, toZ}
 use Rattle.paper.proofs.Laws.{paper}
-use Rattle.paper.specs.Answer.{Answer, gives, pick}
+use Rattle.paper.specs.Answer.{Answer, pick}
 use Rattle.varint.specs.Leb.{groups, lebBytes}
 use Rattle.varint.specs.Zigzag.{zigzag}
 use Rattle.utf8.specs.Ascii.{Plain}
-use Rattle.utf8.specs.WellFormed.{checkText, wellFormed}
+use Rattle.utf8.specs.WellFormed.{checkText}
 use Rattle.utf8.proofs.Ascii.{plain-part}
 use Rattle.cell.specs.ValueList.{items}
 use Rattle.cell.specs.Listing.{wordList, used, blockLen, judged, Judged, Common, Strange, largest, Quick, blocksLen}

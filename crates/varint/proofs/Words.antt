@@ -1,7 +1,7 @@
 -- A number in a word of eight bytes: the first byte with its high bit clear ends it, and the groups of seven bits up to there, with
 -- the gaps between them closed, are its value.
 -- Assumes nothing.
-use mathlib.Core.Path.{_≡_, refl, sym, _∙_, ap, ap₂}
+use mathlib.Core.Path.{_≡_, refl, sym, _∙_, ap}
 use mathlib.Core.Bool.{Bool, true, false}
 use mathlib.Core.List.{List, [], _∷_}
 use Prim.Native.Nat.{ℕ, zero, suc, zero-le, suc-le-suc, _+_, _-_, _*_, _/_, _%_, _^_, _≤_, _<_}
