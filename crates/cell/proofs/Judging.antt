@@ -74,9 +74,12 @@ block-length (suc (suc (suc (suc (suc kind))))) word rest l =
     ∙ len-none (suc (suc (suc (suc (suc kind))))) word b
 
 -- ---- text
-pub text-ascii : (s : List ℕ) → Plain s 0 (length s) → judged 0 tt ≡ checkText s
+pub ascii-part : {s : List ℕ} → Plain s 0 (length s) → (n from : ℕ) → judged 0 tt ≡ checkText (take n (drop from s))
 unfolding judged checkText pick
-text-ascii s p = let e : wellFormed s ≡ true = ap wellFormed (sym (take-length s)) ∙ plain-part p (length s) 0 in rw e
+ascii-part p n from = rw (plain-part p n from)
+
+pub text-ascii : (s : List ℕ) → Plain s 0 (length s) → judged 0 tt ≡ checkText s
+text-ascii s p = rw (take-length s) at (ascii-part p (length s) 0)
 
 module _ (s : List ℕ) {r : Checked} where
   pub text-good : paperChecked r ≡ checkText s → r ≡ C.Text → judged 0 tt ≡ checkText s

@@ -1,11 +1,11 @@
--- The quick reading of a value list: where its numbers are 0 the column is good, and the lengths are those of the plain reading.
+-- The quick reading of a value list: a column of a common kind whose word is not too large is good, and the lengths are those of the plain reading.
 -- Assumes nothing.
 use mathlib.Core.Path.{_≡_, refl, subst, _∙_}
 use mathlib.Core.List.{List}
 use Prim.Native.Nat.{ℕ, zero, suc, _+_, _-_, _*_, _/_, _%_, _^_, _≤_, _<_}
 use native.Mathlib.Omega.{arith}
 use lib.Dec.{ltb, eqb}
-use lib.ListN.{length, take, drop, getD}
+use lib.ListN.{length, drop, getD}
 use mir.Syntax.{w8, w64}
 use mir.Val.{Fits, toZ}
 use Rattle.paper.proofs.Laws.{paper}
@@ -13,14 +13,12 @@ use Rattle.paper.specs.Answer.{Answer, pick}
 use Rattle.varint.specs.Leb.{groups, lebBytes}
 use Rattle.varint.specs.Zigzag.{zigzag}
 use Rattle.utf8.specs.Ascii.{Plain}
-use Rattle.utf8.specs.WellFormed.{checkText}
-use Rattle.utf8.proofs.Ascii.{plain-part}
 use Rattle.cell.specs.ValueList.{items}
 use Rattle.cell.specs.Listing.{wordList, used, blockLen, judged, Judged, Common, Strange, largest, Quick, blocksLen}
 use Rattle.varint.proofs.Limits.{groups-some, groups-last}
 use Rattle.cell.proofs.Numbers.{leb-most}
 use Rattle.cell.proofs.Putting.{list-length}
-use Rattle.cell.proofs.Judging.{judging, judged-integer, judged-real, judged-bool, judged-null, judged-text}
+use Rattle.cell.proofs.Judging.{judging, ascii-part, judged-integer, judged-real, judged-bool, judged-null, judged-text}
 use Rattle.cell.proofs.Measuring.{Measuring, measuring-start, measuring-small, measuring-from, measuring-bytes, measuring-more, measuring-done}
 
 -- ---- the five kinds
@@ -44,17 +42,13 @@ largest-is kind left et eb er = rw (eb, et) at er
 
 -- ---- a column without a flaw
 module _ {rest : List ℕ} (p : Plain rest 0 (length rest)) (word from : ℕ) where
-  plain-text : judged 0 tt ≡ checkText (take (from + word - from) (drop from rest))
-  unfolding judged checkText pick
-  plain-text = rw (plain-part p (from + word - from) from)
-
   flawless : (kind : ℕ) → Common kind → word ≤ largest kind (length rest - from) → Judged kind word (drop from rest) 0
   unfolding largest pick
   flawless kind c l =
       by-kind (λ k. word ≤ largest k (length rest - from) → Judged k word (drop from rest) 0)
       (λ l. judged-integer 0 word (drop from rest) refl)
       (λ l. judged-real 1 word (drop from rest) refl)
-      (λ l. judged-text 2 word from rest refl l plain-text)
+      (λ l. judged-text 2 word from rest refl l (ascii-part p (from + word - from) from))
       (λ l. judged-bool 3 word (drop from rest) refl l)
       (λ l. judged-null 255 word (drop from rest) refl (omega arith))
       kind c l

@@ -78,7 +78,7 @@ fn block_len(kind: u8, word: u64) -> usize
     1 + varint_len(word) + data_used(kind, word)
 }
 
-// 8, or 0 where the bytes are a text. Beside vectors and texts of other letters most are ASCII still.
+// 8, or 0 where the bytes are a text. ASCII is known at once, so it is asked first.
 fn text_refusal(s: &[u8]) -> u8
     ensures { λ r. ⌜ judged r tt ≡ checkText (now (s .entry)) ⌝ }
 {
