@@ -1,3 +1,5 @@
+#![tactic(auto)]
+
 // Runs numbers of document 01 through the code, on either side of each limit, and writes a line for each: the file stdout beside src/
 // has the lines that are right. What the document marks with a star is proved besides, of the definitions: specs/Rows.antt.
 // Each layer has a module of its own, and its lines here.

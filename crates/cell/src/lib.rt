@@ -1,3 +1,5 @@
+#![tactic(auto)]
+
 // Cells: the port of cell.rs. One row per cell: an entry is its body's length and its body, and a body starts with a kind byte.
 pub mod encode;
 pub mod inner;

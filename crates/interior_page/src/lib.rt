@@ -1,3 +1,5 @@
+#![tactic(auto)]
+
 // Interior pages: the port of interior_page.rs. Here stands the divider cell; the page stands on it.
 ghost use Rattle.std.specs.Prelude.{◌≡◌, ◌+◌, ◌≤◌, ◌<◌, length, drop};
 ghost use Rattle.paper.specs.Answer.{over, put, size_of};

@@ -1,3 +1,5 @@
+#![tactic(auto)]
+
 // Overflow: the first half of overflow.rs. The reference that stands on a page for a row kept in a chain, and the paged entry,
 // which is a local cell or such a reference.
 ghost use Rattle.std.specs.Prelude.{◌≡◌, ◌+◌, ◌≤◌, ◌<◌, length, drop, ◌++◌};

@@ -1,3 +1,5 @@
+#![tactic(auto)]
+
 // Replays the answers of the original Rust that `differential record` wrote to data/: makes each call again, through the exported functions,
 // and counts for each call how often the answer is the recorded one. It needs no Rust.
 //

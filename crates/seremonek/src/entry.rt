@@ -12,8 +12,7 @@ use cell::value::{Asked, Value};
 use cell::{Decoded, Measured, PeekedKind, PeekedRowid};
 
 // kind
-#[unsafe(no_mangle)]
-pub extern "C" fn smk_peek_kind(buf: &[u8], pos: usize, answer: &mut [u64; 1]) -> u32
+pub fn smk_peek_kind(buf: &[u8], pos: usize, answer: &mut [u64; 1]) -> u32
     ensures value { result ≡ code_of (peek_kind (drop pos buf.now)) }
     ensures answer_after { answer.new ≡ answered one (peek_kind (drop pos buf.now)) answer.old }
 {
@@ -28,8 +27,7 @@ pub extern "C" fn smk_peek_kind(buf: &[u8], pos: usize, answer: &mut [u64; 1]) -
 }
 
 // rowid
-#[unsafe(no_mangle)]
-pub extern "C" fn smk_peek_rowid(buf: &[u8], pos: usize, answer: &mut [u64; 1]) -> u32
+pub fn smk_peek_rowid(buf: &[u8], pos: usize, answer: &mut [u64; 1]) -> u32
     ensures value { result ≡ code_of (peek_rowid (drop pos buf.now)) }
     ensures answer_after { answer.new ≡ answered signed_one (peek_rowid (drop pos buf.now)) answer.old }
 {
@@ -44,8 +42,7 @@ pub extern "C" fn smk_peek_rowid(buf: &[u8], pos: usize, answer: &mut [u64; 1]) 
 }
 
 // bytes
-#[unsafe(no_mangle)]
-pub extern "C" fn smk_encoded_size_at(buf: &[u8], pos: usize, answer: &mut [u64; 1]) -> u32
+pub fn smk_encoded_size_at(buf: &[u8], pos: usize, answer: &mut [u64; 1]) -> u32
     ensures value { result ≡ code_of (size_at (drop pos buf.now)) }
     ensures answer_after { answer.new ≡ answered one (size_at (drop pos buf.now)) answer.old }
 {
@@ -60,8 +57,7 @@ pub extern "C" fn smk_encoded_size_at(buf: &[u8], pos: usize, answer: &mut [u64;
 }
 
 // rowid, columns, bytes
-#[unsafe(no_mangle)]
-pub extern "C" fn smk_cell_decode(buf: &[u8], pos: usize, answer: &mut [u64; 3]) -> u32
+pub fn smk_cell_decode(buf: &[u8], pos: usize, answer: &mut [u64; 3]) -> u32
     ensures value { result ≡ code_of (head_from (drop pos buf.now)) }
     ensures answer_after { answer.new ≡ answered signed_three (head_from (drop pos buf.now)) answer.old }
 {
@@ -80,8 +76,7 @@ pub extern "C" fn smk_cell_decode(buf: &[u8], pos: usize, answer: &mut [u64; 3])
 }
 
 // kind, word, place
-#[unsafe(no_mangle)]
-pub extern "C" fn smk_cell_value(buf: &[u8], pos: usize, column: u64, answer: &mut [u64; 3]) -> u32
+pub fn smk_cell_value(buf: &[u8], pos: usize, column: u64, answer: &mut [u64; 3]) -> u32
     ensures value { result ≡ code_of (value_at buf.now pos column) }
     ensures answer_after { answer.new ≡ answered value_three (value_at buf.now pos column) answer.old }
 {
@@ -109,8 +104,7 @@ fn words(value: Value) -> [u64; 3]
 }
 
 // bytes
-#[unsafe(no_mangle)]
-pub extern "C" fn smk_cell_encode(
+pub fn smk_cell_encode(
     rowid: i64,
     kinds: &[u8],
     words: &[u8],
@@ -127,8 +121,7 @@ pub extern "C" fn smk_cell_encode(
 }
 
 // bytes
-#[unsafe(no_mangle)]
-pub extern "C" fn smk_cell_encoded_len(
+pub fn smk_cell_encoded_len(
     rowid: i64,
     kinds: &[u8],
     words: &[u8],

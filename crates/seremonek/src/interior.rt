@@ -9,8 +9,7 @@ use crate::inner::answer_size;
 use interior_page::{DecodedInterior, InteriorCell};
 
 // divider, child, bytes
-#[unsafe(no_mangle)]
-pub extern "C" fn smk_interior_cell_decode(buf: &[u8], pos: usize, answer: &mut [u64; 3]) -> u32
+pub fn smk_interior_cell_decode(buf: &[u8], pos: usize, answer: &mut [u64; 3]) -> u32
     ensures value { result ≡ code_of (interior_from (drop pos buf.now)) }
     ensures answer_after { answer.new ≡ answered interior_words (interior_from (drop pos buf.now)) answer.old }
 {
@@ -29,8 +28,7 @@ pub extern "C" fn smk_interior_cell_decode(buf: &[u8], pos: usize, answer: &mut 
 }
 
 // bytes
-#[unsafe(no_mangle)]
-pub extern "C" fn smk_interior_cell_encode(
+pub fn smk_interior_cell_encode(
     divider: i64,
     child: u32,
     out: &mut [u8],

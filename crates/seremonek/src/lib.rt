@@ -1,3 +1,5 @@
+#![tactic(auto)]
+
 // The C interface: one thin function for each call. Each returns 0 or the refusal's number; what a call answers goes
 // into an array of 64-bit words, which a refusal leaves as it was. include/seremonek.h declares the same.
 pub mod entry;

@@ -10,8 +10,7 @@ use crate::inner::answer_size;
 use varint::{ReadI64, ReadU64};
 
 // value, bytes
-#[unsafe(no_mangle)]
-pub extern "C" fn smk_read_u64(buf: &[u8], pos: usize, answer: &mut [u64; 2]) -> u32
+pub fn smk_read_u64(buf: &[u8], pos: usize, answer: &mut [u64; 2]) -> u32
     ensures value { result ≡ code_of (read_u64 buf.now pos) }
     ensures answer_after { answer.new ≡ answered two (read_u64 buf.now pos) answer.old }
 {
@@ -26,8 +25,7 @@ pub extern "C" fn smk_read_u64(buf: &[u8], pos: usize, answer: &mut [u64; 2]) ->
 }
 
 // value, bytes
-#[unsafe(no_mangle)]
-pub extern "C" fn smk_read_i64(buf: &[u8], pos: usize, answer: &mut [u64; 2]) -> u32
+pub fn smk_read_i64(buf: &[u8], pos: usize, answer: &mut [u64; 2]) -> u32
     ensures value { result ≡ code_of (read_i64 buf.now pos) }
     ensures answer_after { answer.new ≡ answered signed_two (read_i64 buf.now pos) answer.old }
 {
@@ -42,8 +40,7 @@ pub extern "C" fn smk_read_i64(buf: &[u8], pos: usize, answer: &mut [u64; 2]) ->
 }
 
 // bytes
-#[unsafe(no_mangle)]
-pub extern "C" fn smk_write_u64(value: u64, out: &mut [u8], answer: &mut [u64; 1]) -> u32
+pub fn smk_write_u64(value: u64, out: &mut [u8], answer: &mut [u64; 1]) -> u32
     ensures value { result ≡ code_of (write_u64 value (length out.old)) }
     ensures out_after { out.new ≡ put out.old (write_u64 value (length out.old)) }
     ensures answer_after { answer.new ≡ answered one (size_of (write_u64 value (length out.old))) answer.old }
@@ -53,8 +50,7 @@ pub extern "C" fn smk_write_u64(value: u64, out: &mut [u8], answer: &mut [u64; 1
 }
 
 // bytes
-#[unsafe(no_mangle)]
-pub extern "C" fn smk_write_i64(value: i64, out: &mut [u8], answer: &mut [u64; 1]) -> u32
+pub fn smk_write_i64(value: i64, out: &mut [u8], answer: &mut [u64; 1]) -> u32
     ensures value { result ≡ code_of (write_i64 value (length out.old)) }
     ensures out_after { out.new ≡ put out.old (write_i64 value (length out.old)) }
     ensures answer_after { answer.new ≡ answered one (size_of (write_i64 value (length out.old))) answer.old }
@@ -63,29 +59,25 @@ pub extern "C" fn smk_write_i64(value: i64, out: &mut [u8], answer: &mut [u64; 1
     answer_size(wrote, answer)
 }
 
-#[unsafe(no_mangle)]
-pub extern "C" fn smk_u64_len(value: u64) -> u64
+pub fn smk_u64_len(value: u64) -> u64
     ensures { result ≡ len_u64 value }
 {
     varint::u64_len(value) as u64
 }
 
-#[unsafe(no_mangle)]
-pub extern "C" fn smk_i64_len(value: i64) -> u64
+pub fn smk_i64_len(value: i64) -> u64
     ensures { result ≡ len_i64 value }
 {
     varint::i64_len(value) as u64
 }
 
-#[unsafe(no_mangle)]
-pub extern "C" fn smk_zigzag_encode(value: i64) -> u64
+pub fn smk_zigzag_encode(value: i64) -> u64
     ensures { result ≡ zigzag value }
 {
     varint::zigzag_encode(value)
 }
 
-#[unsafe(no_mangle)]
-pub extern "C" fn smk_zigzag_decode(value: u64) -> i64
+pub fn smk_zigzag_decode(value: u64) -> i64
     ensures { result ≡ unzigzag value }
 {
     varint::zigzag_decode(value)

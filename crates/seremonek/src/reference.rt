@@ -10,8 +10,7 @@ use crate::inner::answer_size;
 use overflow::{DecodedRef, OverflowRef, PagedEntry};
 
 // rowid, total, first page, bytes
-#[unsafe(no_mangle)]
-pub extern "C" fn smk_overflow_decode(buf: &[u8], pos: usize, answer: &mut [u64; 4]) -> u32
+pub fn smk_overflow_decode(buf: &[u8], pos: usize, answer: &mut [u64; 4]) -> u32
     ensures value { result ≡ code_of (reference_from (drop pos buf.now)) }
     ensures answer_after { answer.new ≡ answered reference_words (reference_from (drop pos buf.now)) answer.old }
 {
@@ -31,8 +30,7 @@ pub extern "C" fn smk_overflow_decode(buf: &[u8], pos: usize, answer: &mut [u64;
 }
 
 // bytes
-#[unsafe(no_mangle)]
-pub extern "C" fn smk_overflow_encode(
+pub fn smk_overflow_encode(
     rowid: i64,
     total: u64,
     first: u32,
@@ -53,8 +51,7 @@ pub extern "C" fn smk_overflow_encode(
 }
 
 // kind, rowid, columns or total, 0 or first page, bytes
-#[unsafe(no_mangle)]
-pub extern "C" fn smk_entry_decode(buf: &[u8], pos: usize, answer: &mut [u64; 5]) -> u32
+pub fn smk_entry_decode(buf: &[u8], pos: usize, answer: &mut [u64; 5]) -> u32
     ensures value { result ≡ code_of (paged_from (drop pos buf.now)) }
     ensures answer_after { answer.new ≡ answered paged_words (paged_from (drop pos buf.now)) answer.old }
 {

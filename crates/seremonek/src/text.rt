@@ -5,8 +5,7 @@ ghost use Rattle.seremonek.specs.Interface.{code_of};
 
 use utf8::Checked;
 
-#[unsafe(no_mangle)]
-pub extern "C" fn smk_utf8_check(bytes: &[u8]) -> u32
+pub fn smk_utf8_check(bytes: &[u8]) -> u32
     ensures { result ≡ code_of (check_text bytes.now) }
 {
     let checked = utf8::check(bytes);

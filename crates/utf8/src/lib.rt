@@ -1,3 +1,5 @@
+#![tactic(auto)]
+
 // UTF-8. Unicode's Table 3-7 of well-formed byte sequences decides; it stands in specs/Table.antt.
 // Two forms of the check make the same promise: `plain` goes by the table's rows, `inner` is the quick one, and proofs/Forms.antt shows that they answer the same.
 pub mod inner;

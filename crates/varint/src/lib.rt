@@ -1,3 +1,5 @@
+#![tactic(auto)]
+
 // Variable-length integers: the port of varint.rs.
 //
 // Unsigned integers are LEB128, little-endian base 128: seven bits a byte, the high bit set while more bytes follow.

@@ -1,0 +1,8 @@
+#![tactic(auto)]
+
+// The C interface as C links it: for each call of `seremonek` an exported one, with the same clauses. include/seremonek.h declares them.
+mod entry;
+mod interior;
+mod number;
+mod reference;
+mod text;

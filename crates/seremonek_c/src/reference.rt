@@ -1,0 +1,41 @@
+// Overflow references, and the paged entry, which is a local entry or such a reference.
+ghost use Rattle.std.specs.Prelude.{◌≡◌, length, drop};
+ghost use Rattle.paper.specs.Answer.{put, size_of};
+ghost use Rattle.overflow.specs.Reference.{reference_from, write_reference};
+ghost use Rattle.overflow.specs.Paged.{paged_from};
+ghost use Rattle.seremonek.specs.Interface.{code_of, answered, one};
+ghost use Rattle.seremonek.specs.Keyed.{reference_words, paged_words};
+
+// rowid, total, first page, bytes
+#[unsafe(no_mangle)]
+pub extern "C" fn smk_overflow_decode(buf: &[u8], pos: usize, answer: &mut [u64; 4]) -> u32
+    ensures value { result ≡ code_of (reference_from (drop pos buf.now)) }
+    ensures answer_after { answer.new ≡ answered reference_words (reference_from (drop pos buf.now)) answer.old }
+{
+    seremonek::reference::smk_overflow_decode(buf, pos, answer)
+}
+
+// bytes
+#[unsafe(no_mangle)]
+pub extern "C" fn smk_overflow_encode(
+    rowid: i64,
+    total: u64,
+    first: u32,
+    out: &mut [u8],
+    answer: &mut [u64; 1],
+) -> u32
+    ensures value { result ≡ code_of (write_reference rowid total first (length out.old)) }
+    ensures out_after { out.new ≡ put out.old (write_reference rowid total first (length out.old)) }
+    ensures answer_after { answer.new ≡ answered one (size_of (write_reference rowid total first (length out.old))) answer.old }
+{
+    seremonek::reference::smk_overflow_encode(rowid, total, first, out, answer)
+}
+
+// kind, rowid, columns or total, 0 or first page, bytes
+#[unsafe(no_mangle)]
+pub extern "C" fn smk_entry_decode(buf: &[u8], pos: usize, answer: &mut [u64; 5]) -> u32
+    ensures value { result ≡ code_of (paged_from (drop pos buf.now)) }
+    ensures answer_after { answer.new ≡ answered paged_words (paged_from (drop pos buf.now)) answer.old }
+{
+    seremonek::reference::smk_entry_decode(buf, pos, answer)
+}

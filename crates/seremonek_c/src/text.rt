@@ -1,0 +1,11 @@
+// Text: UTF-8.
+ghost use Rattle.std.specs.Prelude.{◌≡◌};
+ghost use Rattle.utf8.specs.WellFormed.{check_text};
+ghost use Rattle.seremonek.specs.Interface.{code_of};
+
+#[unsafe(no_mangle)]
+pub extern "C" fn smk_utf8_check(bytes: &[u8]) -> u32
+    ensures { result ≡ code_of (check_text bytes.now) }
+{
+    seremonek::text::smk_utf8_check(bytes)
+}
