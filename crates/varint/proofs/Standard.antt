@@ -146,7 +146,7 @@ groups_shortest : {bytes : List ℕ} {m : ℕ} → Leb128 bytes m → (n : ℕ) 
 unfolding groups
 groups_shortest q zero = zero-le
 groups_shortest (last {group = g} h) (suc n) = rw (groups_last n g h) (suc-le-suc zero-le)
-groups_shortest (more {group = g} {rest = m} {bytes = bs} h r) (suc n) = by (ltb (g + 128 * m) 128) refl (groups_shortest r n)
+groups_shortest (more {group = g} {rest = m} {bytes = bs} h r) (suc n) = by (ltb (g + 128 * m) 128) refl (groups_shortest {bytes = bs} {m = m} r n)
   where
     by : (t : Bool) → ltb (g + 128 * m) 128 ≡ t → length (groups n m) ≤ length bs → length (groups (suc n) (g + 128 * m)) ≤ suc (length bs)
     by true t ih = rw (groups_last n (g + 128 * m) (ltb-true (g + 128 * m) 128 t)) (suc-le-suc zero-le)
