@@ -14,7 +14,7 @@ use Rattle.paper.specs.Answer.{Answer, gives, refuses, pick}
 use Rattle.utf8.specs.declared.Checked.{Checked}
 use Rattle.utf8.specs.declared.Checked.TheVariants.{Text, Refused}
 use Rattle.utf8.specs.Table.{Row}
-use Rattle.utf8.specs.WellFormed.{whole, completes, well_formed, check_text, check_at}
+use Rattle.utf8.specs.WellFormed.{after, whole, completes, well_formed, check_text, check_at}
 use Rattle.utf8.specs.Scalar.{Scalars, encode}
 use Rattle.utf8.specs.Ascii.{Ascii}
 use Rattle.utf8.specs.Checked.{paper_checked}
@@ -110,7 +110,7 @@ unfolding completes whole
 appended none [] t e = never e
 appended (some []) [] t e = refl
 appended (some (r ∷ rs)) [] t e = never e
-appended left (b ∷ s) t e = appended _ s t e
+appended left (b ∷ s) t e = appended (after left b) s t e
 
 -- behind a text, what follows decides
 pub text_append : (s t : List ℕ) → well_formed s ≡ true → well_formed (s ++ t) ≡ well_formed t

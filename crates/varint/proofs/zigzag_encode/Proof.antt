@@ -10,4 +10,4 @@ zigzag_encode_spec =
     (tie.spec
     (λ c κs. search rules)
     (λ c κs. search rules)
-    (λ c. of_pattern _ c.before.before.ranges.v c.before.pattern.ensures c.zigzag-bits.ensures))
+    (λ c. of_pattern _ c.before.before.ranges.v c.before.pattern.ensures c.zigzag_bits.ensures))

@@ -1,0 +1,10 @@
+-- All before i is passed.
+use Rattle.std.proofs.Common.{◌-◌, length}
+use Rattle.utf8.specs.Ascii.{Passed}
+use Rattle.utf8.proofs.inner.short.Given as goal
+
+abbrev pub invariant-loop-i : goal.invariant-loop-i
+invariant-loop-i l = Passed l.s 0 l.i
+
+abbrev pub decreases-loop-i : goal.decreases-loop-i
+decreases-loop-i l = length l.s - l.i
