@@ -10,7 +10,6 @@ use Rattle.cell.specs.Block.{Block, columns}
 use Rattle.cell.specs.Local.{cell_from, head_from}
 use Rattle.cell.specs.Words.{Frame, Locally}
 use Rattle.cell.specs.Paper.{paper_head}
-use Rattle.cell.specs.declared.Head.{Head}
 use Rattle.cell.specs.declared.Decoded.TheVariants as D
 use Rattle.cell.proofs.Placing.{rest_all}
 use Rattle.cell.proofs.Columns.{first_of}

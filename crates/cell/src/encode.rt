@@ -129,7 +129,7 @@ fn column_refusal(kind: u8, word: u64, data: &[u8], from: usize) -> u8
 }
 
 // A refusal's number, 0 where there is none; and a length.
-#[derive(Drop)]
+#[derive(Clone, Copy)]
 struct Measured {
     refusal: u8,
     bytes: usize,

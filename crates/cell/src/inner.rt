@@ -150,7 +150,7 @@ fn blocks_end(body: &[u8], columns: usize, map: usize) -> usize
 }
 
 // A local body: the rowid as ZigZag has it, the columns, where the bitmap stands, and the end or a refusal.
-#[derive(Drop)]
+#[derive(Clone, Copy)]
 pub struct Local {
     pub rowid: u64,
     pub columns: usize,
@@ -214,7 +214,7 @@ pub fn local_body(body: &[u8]) -> Local
 }
 
 // Where an entry's body starts and where it ends; or a refusal as the end.
-#[derive(Drop)]
+#[derive(Clone, Copy)]
 pub struct Framed {
     pub at: usize,
     pub end: usize,

@@ -21,33 +21,33 @@ pub const KIND_OVERFLOW: u8 = 2;
 
 pub const KIND_INTERIOR: u8 = 3;
 
-#[derive(Drop)]
+#[derive(Clone, Copy)]
 pub enum PeekedKind {
     Kind(u8),
     Refused(u8),
 }
 
-#[derive(Drop)]
+#[derive(Clone, Copy)]
 pub enum PeekedRowid {
     Rowid(i64),
     Refused(u8),
 }
 
-#[derive(Drop)]
+#[derive(Clone, Copy)]
 pub enum Measured {
     Bytes(usize),
     Refused(u8),
 }
 
 // What an entry says before its values: its rowid, how many columns it has, how many bytes it takes.
-#[derive(Drop)]
+#[derive(Clone, Copy)]
 pub struct Head {
     pub rowid: i64,
     pub columns: usize,
     pub bytes: usize,
 }
 
-#[derive(Drop)]
+#[derive(Clone, Copy)]
 pub enum Decoded {
     Head(Head),
     Refused(u8),

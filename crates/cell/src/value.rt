@@ -11,7 +11,7 @@ use paper::inner::number;
 
 // What stands in a column. A float's pattern stands beside it, since a NaN does not tell its own; a text and a vector are a
 // place in the caller's slice, then the byte length or the dimension.
-#[derive(Drop)]
+#[derive(Clone, Copy)]
 pub enum Value {
     Null,
     Integer(i64),
@@ -22,7 +22,7 @@ pub enum Value {
 }
 
 // The column's value; or a refusal.
-#[derive(Drop)]
+#[derive(Clone, Copy)]
 pub enum Asked {
     Value(Value),
     Refused(u8),

@@ -14,13 +14,13 @@ use paper::inner::{number, refusal};
 use varint::Wrote;
 
 // One divider: rowids up to `divider_rowid` live under `child_page`.
-#[derive(Drop)]
+#[derive(Clone, Copy)]
 pub struct InteriorCell {
     pub divider_rowid: i64,
     pub child_page: u32,
 }
 
-#[derive(Drop)]
+#[derive(Clone, Copy)]
 pub enum DecodedInterior {
     // The cell, and the bytes it takes.
     Cell(InteriorCell, usize),
@@ -28,7 +28,7 @@ pub enum DecodedInterior {
 }
 
 // A divider in words: as ZigZag has it, and the child page or a refusal.
-#[derive(Drop)]
+#[derive(Clone, Copy)]
 struct DividerWords {
     divider: u64,
     child: usize,

@@ -20,7 +20,7 @@ use varint::Wrote;
 use varint::inner::{Scanned, in_word};
 
 // The marker that stands in for a cell whose body lives in an overflow chain.
-#[derive(Drop)]
+#[derive(Clone, Copy)]
 pub struct OverflowRef {
     pub rowid: i64,
     // The bytes that the chain holds.
@@ -29,7 +29,7 @@ pub struct OverflowRef {
     pub first_overflow_page: u32,
 }
 
-#[derive(Drop)]
+#[derive(Clone, Copy)]
 pub enum DecodedRef {
     // The reference, and the bytes it takes.
     Reference(OverflowRef, usize),
@@ -37,7 +37,7 @@ pub enum DecodedRef {
 }
 
 // A reference in words: the rowid as ZigZag has it, the total, and the first page or a refusal.
-#[derive(Drop)]
+#[derive(Clone, Copy)]
 struct RefWords {
     rowid: u64,
     total: u64,
@@ -162,7 +162,7 @@ pub fn decode(buf: &[u8], pos: usize) -> DecodedRef
 }
 
 // An entry of a leaf page, and the bytes it takes.
-#[derive(Drop)]
+#[derive(Clone, Copy)]
 pub enum PagedEntry {
     Local(Head),
     Overflow(OverflowRef, usize),

@@ -98,7 +98,7 @@ pub fn page_number(text: &[u8], at: usize, sound: &mut bool) -> u32 {
 }
 
 // A step of a field of bytes.
-#[derive(Drop)]
+#[derive(Clone, Copy)]
 enum Step {
     // So many bytes of this value; and the place of the next step.
     Run(usize, u8, usize),

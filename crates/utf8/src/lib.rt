@@ -9,7 +9,7 @@ ghost use Rattle.std.specs.Prelude.{◌≡◌};
 ghost use Rattle.utf8.specs.Checked.{paper_checked};
 ghost use Rattle.utf8.specs.WellFormed.{check_text, check_at};
 
-#[derive(Drop)]
+#[derive(Clone, Copy)]
 pub enum Checked {
     Text,
     Refused(u8),

@@ -22,7 +22,7 @@ fn grown(value: u64, byte: u8, i: usize) -> u64
 }
 
 // The value and the bytes taken: none where the buffer ends sooner, eleven where one byte more is wanted.
-#[derive(Drop)]
+#[derive(Clone, Copy)]
 pub struct Scanned {
     pub value: u64,
     pub taken: usize,

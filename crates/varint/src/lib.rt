@@ -34,20 +34,20 @@ const LIMITS: [u64; 9] = [
 ];
 
 // The value and the bytes it took; or a refusal.
-#[derive(Drop)]
+#[derive(Clone, Copy)]
 pub enum ReadU64 {
     Value(u64, usize),
     Refused(u8),
 }
 
-#[derive(Drop)]
+#[derive(Clone, Copy)]
 pub enum ReadI64 {
     Value(i64, usize),
     Refused(u8),
 }
 
 // How many bytes were written; or a refusal.
-#[derive(Drop)]
+#[derive(Clone, Copy)]
 pub enum Wrote {
     Bytes(usize),
     Refused(u8),

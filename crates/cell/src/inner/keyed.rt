@@ -10,7 +10,7 @@ use paper::inner::refusal;
 use varint::inner::Scanned;
 
 // The rowid as ZigZag has it, and the place behind it or a refusal.
-#[derive(Drop)]
+#[derive(Clone, Copy)]
 pub struct Key {
     pub rowid: u64,
     pub at: usize,

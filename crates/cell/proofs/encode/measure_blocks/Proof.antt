@@ -8,5 +8,5 @@ measure_blocks_spec =
     tie.close
     (tie.spec
     (λ c κs. search quickly)
-    (λ c κs. (search quickly, (search quickly, (search quickly, c.before.all_IsAscii.ensures c.if1.true))))
+    (λ c κs. (search quickly, (search quickly, (search quickly, c.before.all_ascii.ensures c.if-all_ascii.true))))
     (λ c. search quickly) (λ c κs. search quickly) (λ c. search quickly))

@@ -7,5 +7,5 @@ pub text_refusal_spec : {M : Type 1} → statement M
 text_refusal_spec =
     tie.close
     (tie.spec
-    (λ c κs. search judging) (λ c. text_ascii _ (c.before.all_IsAscii.ensures c.if1.true))
+    (λ c κs. search judging) (λ c. text_ascii _ (c.before.all_ascii.ensures c.if-all_ascii.true))
     (λ c κs. search judging) (λ c. search judging) (λ c. search judging) (λ c. search judging) (λ c. search judging))
