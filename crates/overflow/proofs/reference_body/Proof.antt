@@ -29,5 +29,5 @@ reference_body_spec =
     (λ c κs. search references)
     (λ c. search references)
     (λ c. search references)
-    (λ c κs. total_inside c.before.before.before.before.before.before.before.before.before.before.before.before.before.args.body.now _ c.before.before.before.before.before.scan2.ensures (search paper) (search paper))
+    (λ c κs. total_inside c.before.before.before.before.before.before.before.before.before.before.before.before.before.args.body.now _ c.before.before.before.before.before.scan-total.ensures (search paper) (search paper))
     (λ c. search references))
