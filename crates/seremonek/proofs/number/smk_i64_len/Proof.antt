@@ -8,4 +8,4 @@ pub smk_i64_len_spec : {M : Type 1} → statement M
 smk_i64_len_spec =
     tie.close
     (tie.spec
-    (λ c κs. search numbers) (λ c. by_bits len_i64 _ c.before.ranges.value c.i64-len.ensures))
+    (λ c κs. search numbers) (λ c. by_bits len_i64 _ c.before.ranges.value c.i64_len.ensures))

@@ -12,7 +12,7 @@ use Rattle.seremonek.proofs.number.smk_write_i64.Tie as tie
 returns : tie.Need-returns
 returns c =
     let start = c.before.before.before.before.before.before.before in
-    let called = c.before.before.before.before.write-i64 in
+    let called = c.before.before.before.before.write_i64-wrote in
     let out : List ℕ = start.args.out.now in
     let size = by_bits (λ (z : ℤ). size_of (write_i64 z (length out))) _ start.ranges.value called.ensures.0 in
     let bytes = by_bits (λ (z : ℤ). put out (write_i64 z (length out))) _ start.ranges.value called.ensures.1 in

@@ -12,7 +12,7 @@ use Rattle.seremonek.proofs.reference.smk_overflow_encode.Tie as tie
 returns : tie.Need-returns
 returns c =
     let start = c.before.before.before.before.before.before.before in
-    let called = c.before.before.before.before.encode in
+    let called = c.before.before.before.before.encode-wrote in
     let out : List ℕ = start.args.out.now in
     let size = by_bits (λ (z : ℤ). size_of (write_reference z start.args.total start.args.first (length out))) _ start.ranges.rowid called.ensures.0 in
     let bytes = by_bits (λ (z : ℤ). put out (write_reference z start.args.total start.args.first (length out))) _ start.ranges.rowid called.ensures.1 in
