@@ -3,8 +3,7 @@
 #   make scripts       the gate's own scripts, tested
 #   make listed        crates/ and crates.txt name the same crates
 #   make theorems      docs/THEOREMS.md names theorems that are there
-#   make layout        the sources are as rt fmt lays them out
-#   make prove         every crate from nothing, the must-fail edits, the programs
+#   make prove         every crate from nothing, the must-fail edits, the programs; the sources are as rt fmt lays them out
 #   make rust          the Rust side: bindings, header, a bounded comparison with the originals, the record
 #
 # These are passed on to rust/Makefile, and are no part of the gate:
@@ -14,9 +13,9 @@
 #   make record        write the originals' answers anew for crates/replay
 #   make bench         times as ratios (ROUNDS)
 
-PARTS = scripts listed theorems layout prove rust
+PARTS = scripts listed theorems prove rust
 
-.PHONY: test scripts listed theorems layout prove rust show differential record bench
+.PHONY: test scripts listed theorems prove rust show differential record bench
 
 test:
 	@python3 -X utf8 tests/gate.py $(PARTS)
@@ -29,9 +28,6 @@ listed:
 
 theorems:
 	@python3 -X utf8 tests/theorems.py
-
-layout:
-	rt fmt --check
 
 prove:
 	rt ci

@@ -11,6 +11,8 @@ import time
 
 TALLY = re.compile(r"(\d+) passed, (\d+) failed")  # rt ci, and the scripts beside this one
 CARGO = re.compile(r"test result: \w+\. (\d+) passed; (\d+) failed;.*")
+# rt ci passes with a must-fail edit that stands on nothing, and so shows nothing: 'bad' on its line. The gate does not.
+BAD_EDITS = re.compile(r"rt: ok\b.*, (\d+) bad\b.*")
 # A comparison counts its inputs, by the thousand: here it is one check, beside which the others are still seen.
 COMPARISON = re.compile(r"differential: \d+ passed, (\d+) failed|record: \d+ answers .*")
 
@@ -21,6 +23,9 @@ def counted(line):
     found = TALLY.fullmatch(line) or CARGO.fullmatch(line)
     if found:
         return int(found[1]), int(found[2])
+    found = BAD_EDITS.fullmatch(line)
+    if found:
+        return 0, int(found[1])
     found = COMPARISON.fullmatch(line)
     if found:
         return (1, 0) if int(found[1] or 0) == 0 else (0, 1)

@@ -13,7 +13,7 @@ def disagreements(root):
     for line in (root / "crates.txt").read_text().splitlines():
         name, colon, _ = line.partition("#")[0].partition(":")
         if colon:
-            listed.add(name.strip())
+            listed.add(name.split()[0])  # behind the name may stand a word on its kind, as staticlib
     there = {path.name for path in (root / "crates").iterdir() if path.is_dir()}
     complaints = [f"crates/{name} is not listed in crates.txt" for name in sorted(there - listed)]
     complaints += [f"crates.txt lists {name}, and there is no crates/{name}" for name in sorted(listed - there)]

@@ -25,6 +25,9 @@ class Listed(unittest.TestCase):
     def test_agreement(self):
         self.assertEqual(self.ask("# lowest first\na:\n\nb: a # over a\n", ["a", "b"]), ([], 2))
 
+    def test_kind_behind_a_name(self):
+        self.assertEqual(self.ask("a:\na_c staticlib: a\n", ["a", "a_c"]), ([], 2))
+
     def test_folder_that_is_not_listed(self):
         self.assertEqual(self.ask("a:\n", ["a", "b"]), (["crates/b is not listed in crates.txt"], 1))
 
@@ -73,7 +76,8 @@ class Counted(unittest.TestCase):
             ("differential: 70000 passed, 10 failed\n", (0, 1)),
             ("differential: skipped: the originals are not at hand\n", (0, 0)),
             ("record: 4000 answers in crates/replay/data are what the originals say\n", (1, 0)),
-            ("rt: ok, 5 crates proved, 7 must-fail edits refused\n", (0, 0)),
+            ("rt: ok; handles allowed: none; must-fail edits: 7 refused; every proof and must-fail edit was done in this run\n", (0, 0)),
+            ("rt: ok; handles allowed: none; must-fail edits: 5 refused, 1 of them only by a limit, 2 bad; done in this run\n", (0, 2)),
         ]:
             with self.subTest(line):
                 self.assertEqual(gate.counted(line), count)

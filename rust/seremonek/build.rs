@@ -1,4 +1,4 @@
-//! Finds libseremonek.a: in the folder named by SEREMONEK_LIB_DIR, or where `rt staticlib seremonek` writes it.
+//! Finds libseremonek.a: in the folder named by SEREMONEK_LIB_DIR, or where `make -C rust archive` puts it.
 
 use std::env;
 use std::path::PathBuf;
@@ -14,7 +14,7 @@ fn main() {
     println!("cargo:rerun-if-changed={}", archive.display());
     if !archive.is_file() {
         panic!(
-            "{} is not there: run `rt staticlib seremonek` at the repository's root, or name its folder in SEREMONEK_LIB_DIR",
+            "{} is not there: run `make -C rust archive` at the repository's root, or name its folder in SEREMONEK_LIB_DIR",
             archive.display()
         );
     }

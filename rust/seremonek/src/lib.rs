@@ -2,7 +2,7 @@
 //!
 //! Each function lends slices and gives back a value or a [`Refusal`]. A refused call has changed no lent byte. The
 //! declarations of the C functions stand in [`ffi`] and nowhere else; a test holds them to `include/seremonek.h` and
-//! to the exported functions of `crates/seremonek`.
+//! to the exported functions of `crates/seremonek_c`.
 
 pub mod cell;
 pub mod ffi;

@@ -64,14 +64,14 @@ fn slices(parameters: Vec<(String, String)>, file: &str) -> Vec<(String, String)
     joined
 }
 
-/// `#[no_mangle] pub extern "C" fn` of the proved crate: already in the form.
+/// `#[unsafe(no_mangle)] pub extern "C" fn` of the proved crate: already in the form.
 fn exported(text: &str) -> Functions {
     let text = plain(text);
     let mut functions = Functions::new();
     let mut rest = text.as_str();
-    while let Some(at) = rest.find("#[no_mangle]") {
-        rest = rest[at + "#[no_mangle]".len()..].trim_start();
-        rest = rest.strip_prefix("pub extern \"C\" fn ").expect("what is #[no_mangle] is a pub extern \"C\" fn");
+    while let Some(at) = rest.find("#[unsafe(no_mangle)]") {
+        rest = rest[at + "#[unsafe(no_mangle)]".len()..].trim_start();
+        rest = rest.strip_prefix("pub extern \"C\" fn ").expect("what is #[unsafe(no_mangle)] is a pub extern \"C\" fn");
         let open = rest.find('(').unwrap();
         let name = rest[..open].to_string();
         let (list, after) = parenthesised(&rest[open..]);
@@ -177,7 +177,7 @@ fn compare(left: &str, lefts: &Functions, right: &str, rights: &Functions) {
 #[test]
 fn header_declarations_and_exported_functions_agree() {
     let mut proved = Functions::new();
-    let folder = root("crates/seremonek/src");
+    let folder = root("crates/seremonek_c/src");
     let files = fs::read_dir(&folder).unwrap_or_else(|error| panic!("{}: {error}", folder.display()));
     for file in files.map(|file| file.unwrap().path()).filter(|path| path.extension().is_some_and(|end| end == "rt")) {
         proved.extend(exported(&read(&file)));
@@ -185,14 +185,14 @@ fn header_declarations_and_exported_functions_agree() {
     assert!(proved.len() >= 8, "the proved crate was read: {proved:?}");
     let header = declared_in_c(&read(&root("include/seremonek.h")));
     let rust = declared_in_rust(&read(&root("rust/seremonek/src/ffi.rs")));
-    compare("crates/seremonek", &proved, "include/seremonek.h", &header);
-    compare("crates/seremonek", &proved, "rust/seremonek/src/ffi.rs", &rust);
+    compare("crates/seremonek_c", &proved, "include/seremonek.h", &header);
+    compare("crates/seremonek_c", &proved, "rust/seremonek/src/ffi.rs", &rust);
 }
 
 /// The three readers see what they are to see: the same function in three spellings is one form, and each kind of slip changes it.
 #[test]
 fn slips_are_seen() {
-    let rattle = "#[no_mangle]\npub extern \"C\" fn smk_x(buf: &[u8], pos: usize, answer: &mut [u64; 2]) -> u32\n    ensures { λ r. ⌜ r ≡ 0 ⌝ }\n{ 0 }";
+    let rattle = "#[unsafe(no_mangle)]\npub extern \"C\" fn smk_x(buf: &[u8], pos: usize, answer: &mut [u64; 2]) -> u32\n    ensures { result ≡ 0 }\n{ 0 }";
     let header =
         "#include <x>\nextern \"C\" {\n/* x */\nuint32_t smk_x(const uint8_t *buf, size_t buf_len, size_t pos, uint64_t answer[2]);\n}";
     let rust =
