@@ -76,6 +76,7 @@ class Counted(unittest.TestCase):
             ("differential: 70000 passed, 10 failed\n", (0, 1)),
             ("differential: skipped: the originals are not at hand\n", (0, 0)),
             ("record: 4000 answers in crates/replay/data are what the originals say\n", (1, 0)),
+            ("rt: ok, 5 crates proved, 7 must-fail edits refused\n", (0, 0)),
             ("rt: ok; handles allowed: none; must-fail edits: 7 refused; every proof and must-fail edit was done in this run\n", (0, 0)),
             ("rt: ok; handles allowed: none; must-fail edits: 5 refused, 1 of them only by a limit, 2 bad; done in this run\n", (0, 2)),
         ]:
