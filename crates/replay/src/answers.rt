@@ -48,24 +48,20 @@ fn answer_agrees(text: &[u8], line: usize, k: usize, code: u32, answer: &[u64]) 
 // The values, against the fields after the one at `from`.
 fn values_agree(text: &[u8], from: usize, answer: &[u64]) -> bool {
     let mut at = from;
-    let mut i = 0;
-    while i < answer.len() {
+    for value in answer {
         at = field(text, at, 1);
-        if answer[i] != number(text, at) {
+        if *value != number(text, at) {
             return false;
         }
-        i += 1;
     }
     true
 }
 
 fn all_untouched(answer: &[u64]) -> bool {
-    let mut i = 0;
-    while i < answer.len() {
-        if answer[i] != UNTOUCHED {
+    for value in answer {
+        if *value != UNTOUCHED {
             return false;
         }
-        i += 1;
     }
     true
 }
@@ -77,11 +73,7 @@ fn output_agrees(text: &[u8], before: usize, after: usize, code: u32, out: &[u8;
     let mut sound = true;
     fill(text, before, &mut expected, &mut sound);
     fill(text, last, &mut expected, &mut sound);
-    if sound {
-        check::same(out, &expected)
-    } else {
-        false
-    }
+    sound && *out == expected
 }
 
 // A write's result, its bytes and its output, against the fields from the output's own at `before` on.

@@ -2,20 +2,21 @@
 use crate::answers::{ROOM, UNTOUCHED, one_agrees, three_agree, write_agrees};
 use crate::fields::{field, fill, number, signed};
 use crate::print;
+use std::io;
 
 // Numbered from 1 on, in the order of rust/differential/src/cell.rs.
 pub const CALLS: usize = 7;
 
-pub fn print_name(call: usize) {
+pub fn print_name(rt: &impl Print, call: usize) -> io::Result<()> {
     match call {
-        1 => print::text(b"smk_peek_kind"),
-        2 => print::text(b"smk_peek_rowid"),
-        3 => print::text(b"smk_encoded_size_at"),
-        4 => print::text(b"smk_cell_decode"),
-        5 => print::text(b"smk_cell_value"),
-        6 => print::text(b"smk_cell_encode"),
-        7 => print::text(b"smk_cell_encoded_len"),
-        _ => print::text(b"unknown"),
+        1 => print::text(rt, "smk_peek_kind"),
+        2 => print::text(rt, "smk_peek_rowid"),
+        3 => print::text(rt, "smk_encoded_size_at"),
+        4 => print::text(rt, "smk_cell_decode"),
+        5 => print::text(rt, "smk_cell_value"),
+        6 => print::text(rt, "smk_cell_encode"),
+        7 => print::text(rt, "smk_cell_encoded_len"),
+        _ => print::text(rt, "unknown"),
     }
 }
 
@@ -39,11 +40,7 @@ fn peek(call: usize, text: &[u8], line: usize) -> bool {
     let pos = number(text, field(text, line, 2)) as usize;
     let mut answer = [UNTOUCHED; 1];
     let code = peeked(call, &buf[..n], pos, &mut answer);
-    if sound {
-        one_agrees(text, line, 3, code, &answer)
-    } else {
-        false
-    }
+    sound && one_agrees(text, line, 3, code, &answer)
 }
 
 fn peeked(call: usize, buf: &[u8], pos: usize, answer: &mut [u64; 1]) -> u32 {
@@ -62,11 +59,7 @@ fn decode(text: &[u8], line: usize) -> bool {
     let pos = number(text, field(text, line, 2)) as usize;
     let mut answer = [UNTOUCHED; 3];
     let code = seremonek::entry::smk_cell_decode(&buf[..n], pos, &mut answer);
-    if sound {
-        three_agree(text, line, 3, code, &answer)
-    } else {
-        false
-    }
+    sound && three_agree(text, line, 3, code, &answer)
 }
 
 // buf, pos, column; kind, word, place
@@ -78,11 +71,7 @@ fn value(text: &[u8], line: usize) -> bool {
     let column = number(text, field(text, line, 3));
     let mut answer = [UNTOUCHED; 3];
     let code = seremonek::entry::smk_cell_value(&buf[..n], pos, column, &mut answer);
-    if sound {
-        three_agree(text, line, 4, code, &answer)
-    } else {
-        false
-    }
+    sound && three_agree(text, line, 4, code, &answer)
 }
 
 // rowid, kinds, words, data, out; bytes
@@ -128,9 +117,5 @@ fn encoded_len(text: &[u8], line: usize) -> bool {
         &bytes[..d],
         &mut answer,
     );
-    if sound {
-        one_agrees(text, line, 5, code, &answer)
-    } else {
-        false
-    }
+    sound && one_agrees(text, line, 5, code, &answer)
 }

@@ -1,7 +1,6 @@
 // Reading the fields of a line; rust/differential/src/record.rs has the notation. Every function takes any text and any place: past the
 // end there are zeros.
-ghost use Rattle.std.specs.Prelude.{◌+◌, ◌<◌, ◌≤◌, length};
-ghost use Rattle.io.specs.Counts.{IsPrefixLen};
+ghost use Rattle.std.specs.Prelude.{◌≡◌, ◌+◌, ◌<◌, ◌≤◌, length, take};
 
 fn byte_at(text: &[u8], at: usize) -> u8 {
     if at < text.len() { text[at] } else { 0 }
@@ -9,30 +8,26 @@ fn byte_at(text: &[u8], at: usize) -> u8 {
 
 // The place after `at`, `n` further on.
 fn on(at: usize, n: usize) -> usize {
-    std::num::wrapping_add_usize(at, n)
+    at.wrapping_add(n)
 }
 
 // The place after the next `stop` from `at` on, or the end of the text.
 pub fn after(text: &[u8], at: usize, stop: u8) -> usize
     ensures { at < length text.now → at < result }
 {
-    let mut i = at;
-    while i < text.len() {
+    for i in at..text.len() {
         if text[i] == stop {
             return i + 1;
         }
-        i += 1;
     }
-    i
+    text.len().max(at)
 }
 
 // Where field `k` of the line at `line` starts; the first is field 0.
 pub fn field(text: &[u8], line: usize, k: usize) -> usize {
     let mut at = line;
-    let mut left = k;
-    while left > 0 {
+    for _ in 0..k {
         at = after(text, at, b' ');
-        left -= 1;
     }
     at
 }
@@ -61,14 +56,12 @@ fn digit(byte: u8) -> u8
 // The number that starts at `at`, in hexadecimal digits.
 pub fn number(text: &[u8], at: usize) -> u64 {
     let mut value: u64 = 0;
-    let mut i = at;
-    while i < text.len() {
+    for i in at..text.len() {
         let d = digit(text[i]);
         if d == NO_DIGIT {
             return value;
         }
-        value = std::num::wrapping_add_u64(value << 4, d as u64);
-        i += 1;
+        value = (value << 4).wrapping_add(d as u64);
     }
     value
 }
@@ -153,24 +146,20 @@ fn step_at(text: &[u8], at: usize) -> Step {
 fn put_run(buf: &mut [u8], at: usize, count: usize, byte: u8)
     requires { at + count ≤ length buf.old }
 {
-    let end = at + count;
-    let mut i = at;
-    while i < end {
+    for i in at..at + count {
         buf[i] = byte;
-        i += 1;
     }
 }
 
 // Puts the bytes of the field at `at` into `buf`, over what stands there, and answers how many places it covers. Where there is no
 // room for them, or the field is none of bytes, `sound` is set to false.
 pub fn fill(text: &[u8], at: usize, buf: &mut [u8], sound: &mut bool) -> usize
-    ensures { IsPrefixLen result buf.new }
+    ensures within { result ≤ length buf.new }
+    ensures prefix { result ≡ length (take result buf.new) }
 {
     let mut i = at;
     let mut n: usize = 0;
-    let mut turns = text.len();
-    while turns > 0 {
-        turns -= 1;
+    for _ in 0..text.len() {
         match step_at(text, i) {
             Step::Run(count, byte, next) => {
                 if buf.len() - n < count {

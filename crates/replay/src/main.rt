@@ -12,6 +12,12 @@ mod reference_calls;
 mod text_calls;
 mod varint_calls;
 
+ghost use Rattle.std.specs.Prelude.{◌≡◌, ◌≤◌, length, take};
+
+use std::io::Read;
+use std::rt::Files;
+use std::{fs, io};
+
 // Layers, by number.
 const VARINT: u8 = 0;
 
@@ -43,13 +49,13 @@ fn replayed(layer: u8, call: usize, text: &[u8], line: usize) -> bool {
     }
 }
 
-fn print_name(layer: u8, call: usize) {
+fn print_name(rt: &impl Print, layer: u8, call: usize) -> io::Result<()> {
     match layer {
-        VARINT => varint_calls::print_name(call),
-        UTF8 => text_calls::print_name(call),
-        CELL => cell_calls::print_name(call),
-        REFERENCES => reference_calls::print_name(call),
-        _ => {}
+        VARINT => varint_calls::print_name(rt, call),
+        UTF8 => text_calls::print_name(rt, call),
+        CELL => cell_calls::print_name(rt, call),
+        REFERENCES => reference_calls::print_name(rt, call),
+        _ => Ok(()),
     }
 }
 
@@ -58,9 +64,9 @@ const PLACES: usize = 64;
 
 fn grown(counts: &mut [u64; PLACES], place: usize) {
     if place < PLACES {
-        counts[place] = std::num::wrapping_add_u64(counts[place], 1);
+        counts[place] = counts[place].wrapping_add(1);
     } else {
-        counts[0] = std::num::wrapping_add_u64(counts[0], 1);
+        counts[0] = counts[0].wrapping_add(1);
     }
 }
 
@@ -90,25 +96,27 @@ fn replay_lines(layer: u8, text: &[u8], agree: &mut [u64; PLACES], differ: &mut 
     }
 }
 
-fn print_calls(layer: u8, agree: &[u64; PLACES], differ: &[u64; PLACES]) {
+fn print_calls(
+    rt: &impl Print,
+    layer: u8,
+    agree: &[u64; PLACES],
+    differ: &[u64; PLACES],
+) -> io::Result<()> {
     let last = calls(layer);
-    let mut call = 1;
-    while call < PLACES {
+    for call in 1..PLACES {
         if call <= last {
-            print_name(layer, call);
-            print::text(b" ");
-            print::counts(agree[call], differ[call]);
+            print_name(rt, layer, call)?;
+            print::text(rt, " ")?;
+            print::counts(rt, agree[call], differ[call])?;
         }
-        call += 1;
     }
+    Ok(())
 }
 
 fn sum(counts: &[u64; PLACES]) -> u64 {
     let mut total: u64 = 0;
-    let mut i = 0;
-    while i < PLACES {
-        total = std::num::wrapping_add_u64(total, counts[i]);
-        i += 1;
+    for count in counts {
+        total = total.wrapping_add(*count);
     }
     total
 }
@@ -116,36 +124,59 @@ fn sum(counts: &[u64; PLACES]) -> u64 {
 // The room for a file of the record. record.rs keeps to it.
 const FILE_ROOM: usize = 0x40000;
 
-// Replays a layer's file, prints its counts, and adds them to `total`: what agrees, and what differs.
-fn replay(layer: u8, path: &[u8], total: &mut [u64; 2]) {
-    let fd = os::open_read(path);
-    if fd < 0 {
-        os::fail(path);
-        total[1] = std::num::wrapping_add_u64(total[1], 1);
-        return;
+// Reads until `buf` is full, the file ends or a read fails, and answers how many bytes it put at the start of `buf`.
+fn read_full(file: &mut impl Read, buf: &mut [u8]) -> usize
+    ensures within { result ≤ length buf.new }
+    ensures prefix { result ≡ length (take result buf.new) }
+{
+    let mut done = 0;
+    while done < buf.len() {
+        match file.read(&mut buf[done..]) {
+            Ok(0) | Err(_) => return done,
+            Ok(n) => done += n,
+        }
     }
-    let mut agree = [0u64; PLACES];
-    let mut differ = [0u64; PLACES];
-    let mut file = [0u8; FILE_ROOM];
-    let n = io::read_full(fd, &mut file);
-    libc::close(fd);
-    if n == FILE_ROOM {
-        print::text(b"a file of data/ is longer than there is room for\n");
-        total[1] = std::num::wrapping_add_u64(total[1], 1);
-        return;
-    }
-    replay_lines(layer, &file[..n], &mut agree, &mut differ);
-    print_calls(layer, &agree, &differ);
-    total[0] = std::num::wrapping_add_u64(total[0], sum(&agree));
-    total[1] = std::num::wrapping_add_u64(total[1], sum(&differ));
+    done
 }
 
-fn main() {
+// Replays a layer's file, prints its counts, and adds them to `total`: what agrees, and what differs.
+fn replay(
+    rt: &(impl Files + Print + Eprint),
+    layer: u8,
+    path: &str,
+    total: &mut [u64; 2],
+) -> io::Result<()> {
+    let mut file = match fs::open(rt, path) {
+        Ok(file) => file,
+        Err(error) => {
+            eprintln!(rt; "{path}: {error}")?;
+            total[1] = total[1].wrapping_add(1);
+            return Ok(());
+        }
+    };
+    let mut agree = [0u64; PLACES];
+    let mut differ = [0u64; PLACES];
+    let mut text = [0u8; FILE_ROOM];
+    let n = read_full(&mut file, &mut text);
+    drop(file);
+    if n == FILE_ROOM {
+        print::text(rt, "a file of data/ is longer than there is room for\n")?;
+        total[1] = total[1].wrapping_add(1);
+        return Ok(());
+    }
+    replay_lines(layer, &text[..n], &mut agree, &mut differ);
+    print_calls(rt, layer, &agree, &differ)?;
+    total[0] = total[0].wrapping_add(sum(&agree));
+    total[1] = total[1].wrapping_add(sum(&differ));
+    Ok(())
+}
+
+fn main(rt: HostRuntime) -> io::Result<()> {
     let mut total = [0u64; 2];
-    replay(VARINT, b"varint.txt", &mut total);
-    replay(UTF8, b"utf8.txt", &mut total);
-    replay(CELL, b"cell.txt", &mut total);
-    replay(REFERENCES, b"references.txt", &mut total);
-    print::text(b"total ");
-    print::counts(total[0], total[1]);
+    replay(&rt, VARINT, "varint.txt", &mut total)?;
+    replay(&rt, UTF8, "utf8.txt", &mut total)?;
+    replay(&rt, CELL, "cell.txt", &mut total)?;
+    replay(&rt, REFERENCES, "references.txt", &mut total)?;
+    print::text(&rt, "total ")?;
+    print::counts(&rt, total[0], total[1])
 }

@@ -1,13 +1,10 @@
 // Pieces of a line of the program's output.
-use libc::STDOUT_FILENO;
+use std::io;
 
-pub fn text(bytes: &[u8]) {
-    io::write_all(STDOUT_FILENO, bytes);
+pub fn text(rt: &impl Print, text: &str) -> io::Result<()> {
+    rt.print(text)
 }
 
-pub fn counts(agree: u64, differ: u64) {
-    io::print_decimal(STDOUT_FILENO, agree);
-    text(b" agree, ");
-    io::print_decimal(STDOUT_FILENO, differ);
-    text(b" differ\n");
+pub fn counts(rt: &impl Print, agree: u64, differ: u64) -> io::Result<()> {
+    println!(rt; "{agree} agree, {differ} differ")
 }

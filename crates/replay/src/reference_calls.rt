@@ -2,18 +2,19 @@
 use crate::answers::{ROOM, UNTOUCHED, five_agree, four_agree, three_agree, write_agrees};
 use crate::fields::{field, fill, number, page_number, signed};
 use crate::print;
+use std::io;
 
 // Numbered from 1 on, in the order of rust/differential/src/references.rs.
 pub const CALLS: usize = 5;
 
-pub fn print_name(call: usize) {
+pub fn print_name(rt: &impl Print, call: usize) -> io::Result<()> {
     match call {
-        1 => print::text(b"smk_overflow_decode"),
-        2 => print::text(b"smk_overflow_encode"),
-        3 => print::text(b"smk_entry_decode"),
-        4 => print::text(b"smk_interior_cell_decode"),
-        5 => print::text(b"smk_interior_cell_encode"),
-        _ => print::text(b"unknown"),
+        1 => print::text(rt, "smk_overflow_decode"),
+        2 => print::text(rt, "smk_overflow_encode"),
+        3 => print::text(rt, "smk_entry_decode"),
+        4 => print::text(rt, "smk_interior_cell_decode"),
+        5 => print::text(rt, "smk_interior_cell_encode"),
+        _ => print::text(rt, "unknown"),
     }
 }
 
@@ -37,11 +38,7 @@ fn overflow_decode(text: &[u8], line: usize) -> bool {
     let pos = number(text, field(text, line, 2)) as usize;
     let mut answer = [UNTOUCHED; 4];
     let code = seremonek::reference::smk_overflow_decode(&buf[..n], pos, &mut answer);
-    if sound {
-        four_agree(text, line, 3, code, &answer)
-    } else {
-        false
-    }
+    sound && four_agree(text, line, 3, code, &answer)
 }
 
 // rowid, total, first page, out; bytes
@@ -72,11 +69,7 @@ fn entry_decode(text: &[u8], line: usize) -> bool {
     let pos = number(text, field(text, line, 2)) as usize;
     let mut answer = [UNTOUCHED; 5];
     let code = seremonek::reference::smk_entry_decode(&buf[..n], pos, &mut answer);
-    if sound {
-        five_agree(text, line, 3, code, &answer)
-    } else {
-        false
-    }
+    sound && five_agree(text, line, 3, code, &answer)
 }
 
 // buf, pos; divider, child page, bytes
@@ -87,11 +80,7 @@ fn interior_decode(text: &[u8], line: usize) -> bool {
     let pos = number(text, field(text, line, 2)) as usize;
     let mut answer = [UNTOUCHED; 3];
     let code = seremonek::interior::smk_interior_cell_decode(&buf[..n], pos, &mut answer);
-    if sound {
-        three_agree(text, line, 3, code, &answer)
-    } else {
-        false
-    }
+    sound && three_agree(text, line, 3, code, &answer)
 }
 
 // divider, child page, out; bytes

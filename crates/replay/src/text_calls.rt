@@ -2,14 +2,15 @@
 use crate::answers::{ROOM, code_agrees};
 use crate::fields::{field, fill};
 use crate::print;
+use std::io;
 
 // Numbered from 1 on, in the order of rust/differential/src/utf8.rs.
 pub const CALLS: usize = 1;
 
-pub fn print_name(call: usize) {
+pub fn print_name(rt: &impl Print, call: usize) -> io::Result<()> {
     match call {
-        1 => print::text(b"smk_utf8_check"),
-        _ => print::text(b"unknown"),
+        1 => print::text(rt, "smk_utf8_check"),
+        _ => print::text(rt, "unknown"),
     }
 }
 
@@ -27,9 +28,5 @@ fn utf8_check(text: &[u8], line: usize) -> bool {
     let mut sound = true;
     let n = fill(text, field(text, line, 1), &mut bytes, &mut sound);
     let code = seremonek::text::smk_utf8_check(&bytes[..n]);
-    if sound {
-        code_agrees(text, line, 2, code)
-    } else {
-        false
-    }
+    sound && code_agrees(text, line, 2, code)
 }

@@ -2,21 +2,22 @@
 use crate::answers::{ROOM, UNTOUCHED, one_agrees, two_agree, write_agrees};
 use crate::fields::{field, fill, number, signed};
 use crate::print;
+use std::io;
 
 // Numbered from 1 on, in the order of rust/differential/src/varint.rs.
 pub const CALLS: usize = 8;
 
-pub fn print_name(call: usize) {
+pub fn print_name(rt: &impl Print, call: usize) -> io::Result<()> {
     match call {
-        1 => print::text(b"smk_read_u64"),
-        2 => print::text(b"smk_read_i64"),
-        3 => print::text(b"smk_write_u64"),
-        4 => print::text(b"smk_write_i64"),
-        5 => print::text(b"smk_u64_len"),
-        6 => print::text(b"smk_i64_len"),
-        7 => print::text(b"smk_zigzag_encode"),
-        8 => print::text(b"smk_zigzag_decode"),
-        _ => print::text(b"unknown"),
+        1 => print::text(rt, "smk_read_u64"),
+        2 => print::text(rt, "smk_read_i64"),
+        3 => print::text(rt, "smk_write_u64"),
+        4 => print::text(rt, "smk_write_i64"),
+        5 => print::text(rt, "smk_u64_len"),
+        6 => print::text(rt, "smk_i64_len"),
+        7 => print::text(rt, "smk_zigzag_encode"),
+        8 => print::text(rt, "smk_zigzag_decode"),
+        _ => print::text(rt, "unknown"),
     }
 }
 
@@ -44,11 +45,7 @@ fn read(is_signed: bool, text: &[u8], line: usize) -> bool {
     } else {
         seremonek::number::smk_read_u64(&buf[..n], pos, &mut answer)
     };
-    if sound {
-        two_agree(text, line, 3, code, &answer)
-    } else {
-        false
-    }
+    sound && two_agree(text, line, 3, code, &answer)
 }
 
 // value, out; bytes
