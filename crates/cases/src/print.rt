@@ -1,80 +1,68 @@
 // Pieces of a line.
-use libc::STDOUT_FILENO;
+use std::io;
 use varint::Wrote;
 
-pub fn text(s: &[u8]) {
-    io::write_all(STDOUT_FILENO, s);
+pub fn text(rt: &impl Print, s: &str) -> io::Result<()> {
+    rt.print(s)
 }
 
-pub fn number(n: u64) {
-    io::print_decimal(STDOUT_FILENO, n);
+pub fn number(rt: &impl Print, n: u64) -> io::Result<()> {
+    rt.print(n)
 }
 
-pub fn signed(v: i64) {
-    let bits = varint::pattern(v);
-    if v < 0 {
-        text(b"-");
-        number(std::num::wrapping_sub_u64(0, bits));
-    } else {
-        number(bits);
-    }
+pub fn signed(rt: &impl Print, v: i64) -> io::Result<()> {
+    rt.print(v)
 }
-
-const DIGITS: [u8; 16] = *b"0123456789ABCDEF";
 
 // A byte after a blank, as document 01 writes it: two digits in upper case.
-pub fn byte(b: u8) {
-    let spelled = [b' ', DIGITS[b as usize / 16], DIGITS[b as usize % 16]];
-    text(&spelled);
+pub fn byte(rt: &impl Print, b: u8) -> io::Result<()> {
+    print!(rt; " {b:02X}")
 }
 
-pub fn bytes(s: &[u8]) {
-    front(s, s.len());
+pub fn bytes(rt: &impl Print, s: &[u8]) -> io::Result<()> {
+    front(rt, s, s.len())
 }
 
 // The first `n` bytes of `s`.
-pub fn front(s: &[u8], n: usize) {
-    let mut i = 0;
-    while i < s.len() {
-        if i < n {
-            byte(s[i]);
-        }
-        i += 1;
+pub fn front(rt: &impl Print, s: &[u8], n: usize) -> io::Result<()> {
+    for b in s.iter().take(n) {
+        byte(rt, *b)?;
     }
+    Ok(())
 }
 
-pub fn refused(refusal: u8) {
-    text(b" refused ");
-    number(refusal as u64);
+pub fn refused(rt: &impl Print, refusal: u8) -> io::Result<()> {
+    text(rt, " refused ")?;
+    number(rt, refusal as u64)
 }
 
-pub fn taken(bytes: usize) {
-    text(b", bytes taken ");
-    number(bytes as u64);
+pub fn taken(rt: &impl Print, bytes: usize) -> io::Result<()> {
+    text(rt, ", bytes taken ")?;
+    number(rt, bytes as u64)
 }
 
 // The rest of a line that tells what was written to the start of `out`.
-pub fn written(wrote: Wrote, out: &[u8]) {
-    text(b":");
+pub fn written(rt: &impl Print, wrote: Wrote, out: &[u8]) -> io::Result<()> {
+    text(rt, ":")?;
     match wrote {
-        Wrote::Bytes(bytes) => front(out, bytes),
-        Wrote::Refused(number) => refused(number),
+        Wrote::Bytes(bytes) => front(rt, out, bytes)?,
+        Wrote::Refused(number) => refused(rt, number)?,
     }
-    end();
+    end(rt)
 }
 
 // The same for an output of which every byte is shown.
-pub fn left(wrote: Wrote, out: &[u8]) {
-    text(b":");
+pub fn left(rt: &impl Print, wrote: Wrote, out: &[u8]) -> io::Result<()> {
+    text(rt, ":")?;
     match wrote {
-        Wrote::Bytes(_) => text(b" accepted"),
-        Wrote::Refused(number) => refused(number),
+        Wrote::Bytes(_) => text(rt, " accepted")?,
+        Wrote::Refused(number) => refused(rt, number)?,
     }
-    text(b", which leaves");
-    bytes(out);
-    end();
+    text(rt, ", which leaves")?;
+    bytes(rt, out)?;
+    end(rt)
 }
 
-pub fn end() {
-    text(b"\n");
+pub fn end(rt: &impl Print) -> io::Result<()> {
+    text(rt, "\n")
 }

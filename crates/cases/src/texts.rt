@@ -1,14 +1,15 @@
 // Texts: a line for each call of utf8.
 use crate::print;
+use std::io;
 use utf8::Checked;
 
-pub fn check(bytes: &[u8]) {
-    print::text(b"check");
-    print::bytes(bytes);
-    print::text(b":");
+pub fn check(rt: &impl Print, bytes: &[u8]) -> io::Result<()> {
+    print::text(rt, "check")?;
+    print::bytes(rt, bytes)?;
+    print::text(rt, ":")?;
     match utf8::check(bytes) {
-        Checked::Text => print::text(b" text"),
-        Checked::Refused(number) => print::refused(number),
+        Checked::Text => print::text(rt, " text")?,
+        Checked::Refused(number) => print::refused(rt, number)?,
     }
-    print::end();
+    print::end(rt)
 }
