@@ -24,7 +24,6 @@ use Rattle.cell.specs.declared.PeekedRowid.TheVariants as R
 use Rattle.cell.specs.Block.{Block}
 use Rattle.cell.specs.PaperValue.{paper_value, paper_asked}
 use Rattle.cell.specs.Written.{encoded, write_cell}
-use Rattle.varint.specs.declared.Wrote.TheVariants as W
 use Rattle.cell.specs.declared.value.Asked.{Asked}
 use Rattle.cell.specs.declared.value.Asked.TheVariants as Ask
 use Rattle.cell.specs.declared.value.Value.{Value}

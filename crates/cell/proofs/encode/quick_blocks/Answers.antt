@@ -6,9 +6,10 @@ pub loop-i-init : goal.loop-i-init
 loop-i-init c = search looping
 
 pub quick_len-bytes-requires : goal.quick_len-bytes-requires
-quick_len-bytes-requires c =
-    (common_kind c.strange_kind.ensures c.if-strange_kind-ne0.false,
-    quick_small c.loop-i.invariant (search looping) c.word_at-word.ensures c.strange_kind.ensures c.if-strange_kind-ne0.false c.largest_word.ensures c.if-largest_word-word.false)
+quick_len-bytes-requires c = (
+  common_kind c.strange_kind.ensures c.if-strange_kind-ne0.false,
+  quick_small c.loop-i.invariant (search looping) c.word_at-word.ensures c.strange_kind.ensures c.if-strange_kind-ne0.false c.largest_word.ensures c.if-largest_word-word.false,
+)
 
 pub overflow_add-bytes : goal.overflow_add-bytes
 overflow_add-bytes c =
