@@ -1,6 +1,6 @@
 #![tactic(auto)]
 
-// Replays the answers of the original Rust that `differential record` wrote to data/: makes each call again, through the exported functions,
+// Replays the answers of the original Rust that `differential record` wrote to data/: makes each call again, through the functions of `seremonek`,
 // and counts for each call how often the answer is the recorded one. It needs no Rust.
 //
 // A file of data/ holds one layer. A new layer adds its module of calls, an arm in `calls`, `replayed` and `print_name`, and a line in `main`.

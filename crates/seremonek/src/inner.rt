@@ -1,4 +1,4 @@
-// What the exported functions share.
+// What the calls share.
 ghost use Rattle.std.specs.Prelude.{◌≡◌};
 ghost use Rattle.varint.specs.Paper.{paper_wrote};
 ghost use Rattle.seremonek.specs.Interface.{code_of, answered, one};
