@@ -16,8 +16,6 @@ use Rattle.cell.specs.Written.{block_bytes, blocks_bytes, null_bit, null_bits, b
 use Rattle.cell.specs.Keyed.{keyed_at, page_at, keyed_bytes}
 use Rattle.overflow.specs.Reference.{reference_body, reference_from, reference_bytes, write_reference}
 use Rattle.interior_page.specs.InteriorCells.{interior_body, interior_from, interior_bytes, write_interior}
-use Rattle.seremonek.specs.Interface.{two, signed_one, signed_three, value_three}
-use Rattle.seremonek.specs.Keyed.{reference_words, interior_words}
 use Rattle.cases.specs.Question.{Row, says, eights}
 use Rattle.cases.specs.Rows.{rows}
 
@@ -30,5 +28,5 @@ answers [] = []
 answers (r ∷ rs) = r.answer ∷ answers rs
 
 pub every_row : said rows ≡ answers rows
-unfolding rows says and_then pick taken sum_from read_from read_u64 groups leb_bytes write_u64 zigzag unzigzag read_i64 two signed_one signed_three value_three reference_words interior_words eights bytes table inside begun after whole completes well_formed check_text check_at framed entry block_of block is_null bitmap_bytes columns blocks_at row_of local_body cell_from head_from moved nth value_from value_at item items words_of value_list block_bytes blocks_bytes null_bit null_bits bitmap body_bytes entry_bytes encoded write_cell keyed_at page_at with_length keyed_bytes fitted reference_body reference_from reference_bytes write_reference interior_body interior_from interior_bytes write_interior
+unfolding rows says and_then pick taken sum_from read_from read_u64 groups leb_bytes write_u64 zigzag unzigzag read_i64 eights bytes table inside begun after whole completes well_formed check_text check_at framed entry block_of block is_null bitmap_bytes columns blocks_at row_of local_body cell_from head_from moved nth value_from value_at item items words_of value_list block_bytes blocks_bytes null_bit null_bits bitmap body_bytes entry_bytes encoded write_cell keyed_at page_at with_length keyed_bytes fitted reference_body reference_from reference_bytes write_reference interior_body interior_from interior_bytes write_interior
 every_row = refl

@@ -6,10 +6,11 @@
 mod cells;
 mod dividers;
 mod numbers;
-mod print;
 mod references;
+mod show;
 mod texts;
 
+use crate::cells::List;
 use std::io;
 
 fn main(rt: HostRuntime) -> io::Result<()> {
@@ -28,17 +29,17 @@ fn main(rt: HostRuntime) -> io::Result<()> {
 }
 
 fn unsigned(rt: &impl Print) -> io::Result<()> {
-    numbers::write(rt, 300)?;
-    numbers::read(rt, b"\xAC\x02")?;
-    numbers::write(rt, 16_383)?;
-    numbers::read(rt, b"\xFF\x7F")?;
-    numbers::write(rt, u64::MAX)?;
-    numbers::read(rt, b"\xFF\xFF\xFF\xFF\xFF\xFF\xFF\xFF\xFF\x01")?;
-    numbers::read(rt, b"\x80\x80\x80\x80\x80\x80\x80\x80\x80\x02")?;
-    numbers::read(rt, b"\xFF\xFF\xFF\xFF\xFF\xFF\xFF\xFF\xFF\x80")?;
-    numbers::read(rt, b"\x80")?;
-    numbers::read(rt, b"")?;
-    numbers::read(rt, b"\x80\x00")?;
+    numbers::write::<u64>(rt, "write", 300)?;
+    numbers::read::<u64>(rt, "read", b"\xAC\x02")?;
+    numbers::write::<u64>(rt, "write", 16_383)?;
+    numbers::read::<u64>(rt, "read", b"\xFF\x7F")?;
+    numbers::write::<u64>(rt, "write", u64::MAX)?;
+    numbers::read::<u64>(rt, "read", b"\xFF\xFF\xFF\xFF\xFF\xFF\xFF\xFF\xFF\x01")?;
+    numbers::read::<u64>(rt, "read", b"\x80\x80\x80\x80\x80\x80\x80\x80\x80\x02")?;
+    numbers::read::<u64>(rt, "read", b"\xFF\xFF\xFF\xFF\xFF\xFF\xFF\xFF\xFF\x80")?;
+    numbers::read::<u64>(rt, "read", b"\x80")?;
+    numbers::read::<u64>(rt, "read", b"")?;
+    numbers::read::<u64>(rt, "read", b"\x80\x00")?;
     numbers::write_to_one(rt, 127)?;
     numbers::write_to_one(rt, 300)
 }
@@ -49,26 +50,25 @@ fn signed(rt: &impl Print) -> io::Result<()> {
     numbers::zigzag(rt, 64)?;
     numbers::zigzag(rt, i64::MIN)?;
     numbers::zigzag(rt, i64::MAX)?;
-    numbers::write_signed(rt, -64)?;
-    numbers::read_signed(rt, b"\x7F")?;
-    numbers::write_signed(rt, 64)?;
-    numbers::read_signed(rt, b"\x80\x01")?;
-    numbers::write_signed(rt, i64::MIN)?;
-    numbers::read_signed(rt, b"\xFF\xFF\xFF\xFF\xFF\xFF\xFF\xFF\xFF\x01")?;
-    numbers::read_signed(rt, b"\x80")
+    numbers::write::<i64>(rt, "write signed", -64)?;
+    numbers::read::<i64>(rt, "read signed", b"\x7F")?;
+    numbers::write::<i64>(rt, "write signed", 64)?;
+    numbers::read::<i64>(rt, "read signed", b"\x80\x01")?;
+    numbers::write::<i64>(rt, "write signed", i64::MIN)?;
+    numbers::read::<i64>(
+        rt,
+        "read signed",
+        b"\xFF\xFF\xFF\xFF\xFF\xFF\xFF\xFF\xFF\x01",
+    )?;
+    numbers::read::<i64>(rt, "read signed", b"\x80")
 }
 
 // The nine limits at which the length grows.
 fn limits(rt: &impl Print) -> io::Result<()> {
-    numbers::length_around(rt, 7)?;
-    numbers::length_around(rt, 14)?;
-    numbers::length_around(rt, 21)?;
-    numbers::length_around(rt, 28)?;
-    numbers::length_around(rt, 35)?;
-    numbers::length_around(rt, 42)?;
-    numbers::length_around(rt, 49)?;
-    numbers::length_around(rt, 56)?;
-    numbers::length_around(rt, 63)
+    for k in 1..10 {
+        numbers::length_around(rt, 7 * k)?;
+    }
+    Ok(())
 }
 
 // The corners of Table 3-7: 0 in two bytes, the first surrogate, the first number past the last scalar value, and the last one.
@@ -138,25 +138,29 @@ fn peeks(rt: &impl Print) -> io::Result<()> {
     cells::size(rt, b"\xF6\xFF\xFF\xFF\xFF\xFF\xFF\xFF\xFF\x01")
 }
 
+fn list<'a>(kinds: &'a [u8], words: &'a [u8], data: &'a [u8]) -> List<'a> {
+    List { kinds, words, data }
+}
+
 // The row of `entry` written; and each refusal of a value list, in the order of the checks.
 fn lists(rt: &impl Print) -> io::Result<()> {
     let words =
         *b"\x05\x00\x00\x00\x00\x00\x00\x00\x00\x00\x00\x00\x00\x00\x00\x00\x01\x00\x00\x00\x00\x00\x00\x00\x01\x00\x00\x00\x00\x00\x00\x00";
-    cells::write(rt, 1, b"\x00\xFF\x02\x03", &words, b"A")?;
+    cells::write(rt, 1, list(b"\x00\xFF\x02\x03", &words, b"A"))?;
     let one = *b"\x01\x00\x00\x00\x00\x00\x00\x00";
     let two = *b"\x02\x00\x00\x00\x00\x00\x00\x00";
-    cells::write(rt, 1, b"\x00", b"\x01", b"")?;
-    cells::write(rt, 1, b"\x00\x00", &one, b"")?;
-    cells::write(rt, 1, b"\x06", &one, b"")?;
-    cells::write(rt, 1, b"\x03", &two, b"")?;
-    cells::write(rt, 1, b"\xFF", &one, b"")?;
-    cells::write(rt, 1, b"\x02", &one, b"")?;
-    cells::write(rt, 1, b"\x04", &one, b"ABC")?;
-    cells::write(rt, 1, b"\x05", &one, b"")?;
-    cells::write(rt, 1, b"\x02", &one, b"\x80")?;
-    cells::write(rt, 1, b"\x02", &one, b"AB")?;
-    cells::write_to_four(rt, 1, b"", b"", b"")?;
-    cells::write_to_four(rt, 1, b"\x03", &one, b"")
+    cells::write(rt, 1, list(b"\x00", b"\x01", b""))?;
+    cells::write(rt, 1, list(b"\x00\x00", &one, b""))?;
+    cells::write(rt, 1, list(b"\x06", &one, b""))?;
+    cells::write(rt, 1, list(b"\x03", &two, b""))?;
+    cells::write(rt, 1, list(b"\xFF", &one, b""))?;
+    cells::write(rt, 1, list(b"\x02", &one, b""))?;
+    cells::write(rt, 1, list(b"\x04", &one, b"ABC"))?;
+    cells::write(rt, 1, list(b"\x05", &one, b""))?;
+    cells::write(rt, 1, list(b"\x02", &one, b"\x80"))?;
+    cells::write(rt, 1, list(b"\x02", &one, b"AB"))?;
+    cells::write_to_four(rt, 1, list(b"", b"", b""))?;
+    cells::write_to_four(rt, 1, list(b"\x03", &one, b""))
 }
 
 // Rowid 7, total 5,000, page 9; and its neighbours: another kind, an empty body, no bytes of the total, one byte of the page missing, one
@@ -168,9 +172,9 @@ fn reference(rt: &impl Print) -> io::Result<()> {
     references::read(rt, b"\x02\x02\x0E")?;
     references::read(rt, b"\x07\x02\x0E\x88\x27\x09\x00\x00\x00")?;
     references::read(rt, b"\x09\x02\x0E\x88\x27\x09\x00\x00\x00\x00")?;
-    references::write(rt, 7, 5000, 9)?;
-    references::write(rt, i64::MIN, u64::MAX, u32::MAX)?;
-    references::write_to_25(rt, i64::MIN, u64::MAX, u32::MAX)
+    references::write(rt, 7, 5000, 9, &mut [0u8; 32])?;
+    references::write(rt, i64::MIN, u64::MAX, u32::MAX, &mut [0u8; 32])?;
+    references::write(rt, i64::MIN, u64::MAX, u32::MAX, &mut [0u8; 25])
 }
 
 // The kind byte decides: a cell, a reference, a divider, and no kind byte. It is looked for in the buffer: behind an empty body stands
@@ -190,7 +194,7 @@ fn divider(rt: &impl Print) -> io::Result<()> {
     dividers::read(rt, b"\x06\x02\x14\x03\x00\x00\x00")?;
     dividers::read(rt, b"\x05\x03\x14\x03\x00\x00\x00")?;
     dividers::read(rt, b"\x07\x03\x14\x03\x00\x00\x00\x00")?;
-    dividers::write(rt, 10, 3)?;
-    dividers::write(rt, i64::MIN, u32::MAX)?;
-    dividers::write_to_15(rt, i64::MIN, u32::MAX)
+    dividers::write(rt, 10, 3, &mut [0u8; 32])?;
+    dividers::write(rt, i64::MIN, u32::MAX, &mut [0u8; 32])?;
+    dividers::write(rt, i64::MIN, u32::MAX, &mut [0u8; 15])
 }

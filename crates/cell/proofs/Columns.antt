@@ -1,23 +1,18 @@
 -- The walk over the columns, and what it says of a whole body.
 -- Assumes nothing.
-use Rattle.std.proofs.Common.{◌≡◌, ℕ, zero, suc, ◌+◌, ◌-◌, ◌*◌, ◌/◌, ◌%◌, ◌^◌, ◌<◌, ◌≤◌, Bool, true, false, eqb, ltb, List, ◌∷◌, length, get_or, take, drop, sym, refl, ap, ◌∙◌, zero-le, arith, ltb-false, ltb-true}
-use native.Mathlib.Nat.{sub-zero}
+use Rattle.std.proofs.Common.{◌≡◌, ℕ, zero, suc, ◌+◌, ◌-◌, ◌*◌, ◌<◌, ◌≤◌, Bool, true, false, ltb, List, ◌∷◌, length, get_or, take, drop, sym, refl, ap, ◌∙◌, arith, ltb-false, ltb-true}
 use Rattle.paper.specs.Answer.{Answer, gives, refuses, and_then, pick}
-use Rattle.paper.specs.Coded.{Coded}
-use Rattle.paper.proofs.Coding.{coded_place, coded_refusal, is_place, is_refusal, is_number}
-use Rattle.paper.proofs.Laws.{paper, gives_one, gives_refuses, first, second}
-use Rattle.varint.specs.Leb.{read_u64}
+use Rattle.paper.proofs.Laws.{gives_one, gives_refuses, first, second}
 use Rattle.varint.proofs.Places.{end_inside}
-use Rattle.utf8.specs.WellFormed.{well_formed}
-use Rattle.cell.specs.Block.{Block, null, block, block_of, columns, is_null, bitmap_bytes}
-use Rattle.cell.specs.Words.{fixed_end, text_end, vector_end, block_end, column_end, columns_end, Walking}
-use Rattle.cell.proofs.Accepting.{not_refused, not_other, then_gave}
-use Rattle.cell.proofs.Blocks.{read_inside, end_of, integer_end, real_end, text_link, bool_end, vector_link, unknown, tagged, block_missing}
+use Rattle.utf8.specs.WellFormed.{check_text}
+use Rattle.cell.specs.Block.{Block, null, block, block_of, columns, is_null}
+use Rattle.cell.specs.Words.{fixed_end, counted, text_end, vector_end, block_end, column_end, columns_end}
+use Rattle.cell.proofs.Accepting.{not_refused, then_gave}
+use Rattle.cell.proofs.Blocks.{counted_inside, end_of, integer_end, real_end, text_link, bool_end, vector_link, unknown, tagged, block_missing}
 
 -- ---- the place behind a block lies inside the body, past its own place
 
 fixed_inside : (body : List ℕ) (at size : ℕ) {e : ℕ} → at ≤ length body → gives e ≡ fixed_end body at size → (at ≤ e) × (e ≤ length body)
-unfolding fixed_end
 fixed_inside body at size {e} h g =
     let (t, f) = not_refused (ltb (length body - at) size) 7 _ (sym g) in
     let c : size ≤ length body - at = ltb-false (length body - at) size t in
@@ -25,28 +20,18 @@ fixed_inside body at size {e} h g =
     (omega arith, omega arith)
 
 text_inside : (body : List ℕ) (at : ℕ) {e : ℕ} → gives e ≡ text_end body at → (at ≤ e) × (e ≤ length body)
-unfolding text_end
 text_inside body at {e} g =
-    let (v, v-is, v-then) = then_gave (read_u64 body at) _ (sym g) in
-    let len : ℕ = v.0 in
-    let n : ℕ = v.1 in
-    let (t, f) = not_refused (ltb (length body - (at + n)) len) 7 _ v-then in
-    let (u, k) = not_other (well_formed (take len (drop (at + n) body))) 8 _ f in
-    let c : len ≤ length body - (at + n) = ltb-false (length body - (at + n)) len t in
-    let d : at + n + len ≡ e = gives_one k in
-    let i : at + n ≤ length body = read_inside body at v-is in
+    let (v, v-is, v-then) = then_gave (counted 1 body at) _ (sym g) in
+    let (u, u-is, k) = then_gave (check_text (take v.1 (drop v.0 body))) _ v-then in
+    let (s, i) = counted_inside 1 body at (sym v-is) in
+    let d : v.0 + v.1 ≡ e = gives_one k in
     (omega arith, omega arith)
 
 vector_inside : (body : List ℕ) (at : ℕ) {e : ℕ} → gives e ≡ vector_end body at → (at ≤ e) × (e ≤ length body)
-unfolding vector_end
 vector_inside body at {e} g =
-    let (v, v-is, v-then) = then_gave (read_u64 body at) _ (sym g) in
-    let dim : ℕ = v.0 in
-    let n : ℕ = v.1 in
-    let (t, f) = not_refused (ltb ((length body - (at + n)) / 4) dim) 7 _ v-then in
-    let c : dim ≤ (length body - (at + n)) / 4 = ltb-false ((length body - (at + n)) / 4) dim t in
-    let d : at + n + 4 * dim ≡ e = gives_one f in
-    let i : at + n ≤ length body = read_inside body at v-is in
+    let (v, v-is, v-then) = then_gave (counted 4 body at) _ (sym g) in
+    let (s, i) = counted_inside 4 body at (sym v-is) in
+    let d : v.0 + 4 * v.1 ≡ e = gives_one v-then in
     (omega arith, omega arith)
 
 block_of_inside : (tag : ℕ) (body : List ℕ) (at : ℕ) {e : ℕ} → at ≤ length body → gives e ≡ end_of body at (block_of tag body at) → (at ≤ e) × (e ≤ length body)
@@ -72,24 +57,6 @@ block_inside body at {e} g = by (ltb at (length body)) refl
         let (l, m) = block_of_inside (get_or body at 0) body (at + 1) (omega arith) (g ∙ tagged body at h refl) in
         (omega arith, m)
     by false t = absurd (gives_refuses (g ∙ past (ltb-false at (length body) t)))
-
--- ---- one column
-module _ (body : List ℕ) (map c at : ℕ) {t : Bool} (d : t ≡ is_null body map c) where
-  pub column_null : t ≡ true → at ≤ length body → length body * 1 < 2 ^ 63 → Coded (column_end body map c at) at
-  unfolding column_end pick and_then
-  column_null e h b = coded_place (rw (← d, e)) (omega arith)
-
-  pub column_block : {r : ℕ} → t ≡ false → Coded (block_end body at) r → Coded (column_end body map c at) r
-  unfolding column_end block_end pick and_then
-  column_block e k = rw (← d, e) k
-
-pub column_inside : (body : List ℕ) (map c at : ℕ) {e : ℕ} → at ≤ length body → gives e ≡ column_end body map c at → (at ≤ e) × (e ≤ length body)
-unfolding column_end block_end pick and_then
-column_inside body map c at {e} h g = by (is_null body map c) g
-  where
-    by : (t : Bool) → gives e ≡ and_then (pick t (gives (null, at)) (block body at)) (λ (b, end). gives end) → (at ≤ e) × (e ≤ length body)
-    by true g = let z : e ≡ at = gives_one g in (omega arith, omega arith)
-    by false g = let (l, m) = block_inside body at {e = e} g in (omega arith, m)
 
 -- ---- the first of some columns, and the others
 
@@ -136,60 +103,12 @@ columns_step n c map body at = by (pick (is_null body map c) (gives (null, at)) 
     by (gives p) = by2 p.0 (columns n (c + 1) map body p.1)
     by (refuses k) = refl
 
-module _ {body : List ℕ} {map count start : ℕ} where
-  pub walking_start : start ≤ length body → Walking body map count start start 0
-  walking_start h = record { most = zero-le; inside = h; same = rw (sub-zero count) }
+module _ (n c map : ℕ) (body : List ℕ) (at : ℕ) where
+  pub columns_all : n ≤ c → columns_end (n - c) c map body at ≡ gives at
+  unfolding columns_end columns and_then
+  columns_all l = let e : n - c ≡ 0 = omega arith in rw e
 
-  module _ {at c : ℕ} (w : Walking body map count start at c) where
-    pub walking_index : c < count → map + bitmap_bytes count ≤ length body → map + c / 8 < length body
-    unfolding bitmap_bytes
-    walking_index t r = omega arith
+  pub columns_next : c < n → columns_end (n - c) c map body at ≡ and_then (column_end body map c at) (λ next. columns_end (n - (c + 1)) (c + 1) map body next)
+  columns_next l = let e : n - c ≡ suc (n - (c + 1)) = omega arith in rw e (columns_step (n - (c + 1)) c map body at)
 
-    module _ (t : c < count) {next : ℕ} (k : Coded (column_end body map c at) next) where
-      walking_step : columns_end count 0 map body start ≡ and_then (column_end body map c at) (λ e. columns_end (count - (c + 1)) (c + 1) map body e)
-      walking_step =
-          let e : count - c ≡ suc (count - (c + 1)) = omega arith in
-          sym w.same ∙ rw e (columns_step (count - (c + 1)) c map body at)
-
-      pub walking_refused : 2 ^ 63 ≤ next → next < 2 ^ 64 → Coded (columns_end count 0 map body start) next
-      unfolding and_then
-      walking_refused l f =
-          let n = is_number k l in
-          coded_refusal {k = 2 ^ 64 - 1 - next} (rw (walking_step, ← is_refusal k l refl)) (omega arith) (omega arith)
-
-      pub walking_more : next < 2 ^ 63 → Walking body map count start next (c + 1)
-      unfolding and_then
-      walking_more l =
-          let g = is_place k l in
-          let (a, b) = column_inside body map c at w.inside g in
-          record { most = omega arith; inside = b; same = sym (rw (walking_step, ← g)) }
-
-    pub walking_end : count ≤ c → length body * 1 < 2 ^ 63 → Coded (columns_end count 0 map body start) at
-    unfolding columns_end columns and_then
-    walking_end l b =
-        let m : c ≤ count = w.most in
-        let i : at ≤ length body = w.inside in
-        let e : count - c ≡ 0 = omega arith in
-        coded_place (rw e at w.same) (omega arith)
-
--- ---- small things
-pub eight : (n : ℕ) → n / 8 + (n % 8 + 7) / 8 ≡ bitmap_bytes n
-unfolding bitmap_bytes
-eight n = omega arith
-
-pub null_bit_lem : (body : List ℕ) (map c : ℕ) {w : ℕ} → w ≡ get_or body (map + c / 8) 0 → eqb (w / 2 ^ (c % 8) % 2) 1 ≡ is_null body map c
-unfolding is_null
-null_bit_lem body map c e = rw e
-
-pub ruleset walks = (
-  paper,
-  eight,
-  null_bit_lem,
-  column_null,
-  column_block,
-  walking_start,
-  walking_index,
-  walking_refused,
-  walking_more,
-  walking_end,
-)
+pub ruleset walks = (columns_all, columns_next)

@@ -3,13 +3,14 @@ pub mod Columns
 pub mod Bodies
 pub mod Peeks
 pub mod Heads
+pub mod Framing
 pub mod Keys
 pub mod Short
 pub mod Values
 pub mod ExactValue
 pub mod Placing
-pub mod Copying
 pub mod Numbers
+pub mod Pairing
 pub mod BlockWriting
 pub mod Nulls
 pub mod Putting

@@ -1,126 +1,60 @@
--- The peeks and the head: what the code's tests say of their definitions.
+-- The peeks, which look at no more than they name.
 -- Assumes nothing.
-use Rattle.std.proofs.Common.{◌≡◌, ℕ, ◌+◌, ◌-◌, ◌*◌, ◌^◌, ◌<◌, ◌≤◌, List, length, get_or, drop, ℤ, arith, length-drop, get_or-drop, drop-drop, w64, Fits, le-ltb, lt-ltb}
-use Rattle.paper.proofs.Laws.{paper}
-use Rattle.paper.specs.Answer.{Answer, refuses, and_then, pick}
-use Rattle.varint.specs.Leb.{read_u64, read_from}
+use Rattle.std.proofs.Common.{◌≡◌, ℕ, ◌+◌, ◌-◌, ◌<◌, ◌≤◌, Bool, true, false, ltb, List, length, get_or, drop, sym, refl, ap, arith, length-drop, get_or-drop, drop-drop, ltb-true, ltb-false, le-ltb, lt-ltb}
+use Rattle.paper.specs.Answer.{Answer, gives, refuses, and_then, pick}
+use Rattle.paper.proofs.Laws.{gives_one}
+use Rattle.varint.specs.Leb.{read_u64}
 use Rattle.varint.specs.Number.{read_i64}
-use Rattle.varint.specs.Scan.{FoundAt}
-use Rattle.varint.specs.Zigzag.{unzigzag}
-use Rattle.varint.proofs.Places.{at_short, at_long, at_value, at_inside, signed_gives, signed_refuses}
-use Rattle.cell.specs.Entry.{peek_kind, peek_rowid, rowid_at, size_at}
-use Rattle.cell.specs.Paper.{paper_kind, paper_rowid, paper_size}
-use Rattle.cell.specs.declared.Measured.TheVariants as M
-use Rattle.cell.specs.declared.PeekedKind.TheVariants as K
-use Rattle.cell.specs.declared.PeekedRowid.TheVariants as R
+use Rattle.varint.proofs.Places.{at_inside, read_as_i64}
+use Rattle.cell.specs.Entry.{peek_kind, peek_rowid, rowid_at}
+use Rattle.cell.specs.Words.{kind_place}
+use Rattle.cell.proofs.Accepting.{not_other, then_gave}
 
--- ---- the length varint at a place, for whatever goes on from it
-module _ {A : Type 0} (s : List ℕ) (pos : ℕ) {v n : ℕ} (f : FoundAt s pos v n) (go : ℕ × ℕ → Answer A) where
-  after_short : n ≡ 0 → refuses 1 ≡ and_then (read_from (drop pos s)) go
-  unfolding and_then read_u64
-  after_short z = rw (← at_short s pos f z)
+-- the kind byte is inside
+pub kind_inside : (s : List ℕ) (pos : ℕ) {at : ℕ} → gives at ≡ kind_place s pos → at < length s
+kind_inside s pos g =
+    let (v, v-is, v-then) = then_gave (read_u64 s pos) _ (sym g) in
+    let (t, f) = not_other (ltb (pos + v.1) (length s)) 4 _ v-then in
+    rw (← gives_one f) (ltb-true (pos + v.1) (length s) t)
 
-  after_long : 10 < n → refuses 2 ≡ and_then (read_from (drop pos s)) go
-  unfolding and_then read_u64
-  after_long l = rw (← at_long s pos f l)
+-- ---- what the peeks say of the entry at a place, by the place of its kind byte
+module _ (s : List ℕ) (pos : ℕ) where
+  there : (n : ℕ) → ltb n (length (drop pos s)) ≡ ltb (pos + n) (length s)
+  there n = by (ltb (pos + n) (length s)) refl
+    where
+      by : (t : Bool) → ltb (pos + n) (length s) ≡ t → ltb n (length (drop pos s)) ≡ t
+      by true t =
+          let l : pos + n < length s = ltb-true (pos + n) (length s) t in
+          rw (length-drop pos s) (lt-ltb n (length s - pos) (omega arith))
+      by false t =
+          let l : length s ≤ pos + n = ltb-false (pos + n) (length s) t in
+          rw (length-drop pos s) (le-ltb n (length s - pos) (omega arith))
 
-  after_value : (n ≡ 0 → ⊥) → n ≤ 10 → go (v, n) ≡ and_then (read_from (drop pos s)) go
-  unfolding and_then read_u64
-  after_value z l = rw (← at_value s pos f z l)
+  -- whatever is done at the kind byte
+  at_kind : {A : Type 0} (here : ℕ → Answer A) (go : ℕ → Answer A) → ((n : ℕ) → go n ≡ here (pos + n))
+      → and_then (read_u64 s pos) (λ (len, n). pick (ltb n (length (drop pos s))) (go n) (refuses 4)) ≡ and_then (kind_place s pos) here
+  unfolding and_then pick
+  at_kind {A} here go same = by (read_u64 s pos)
+    where
+      by2 : (n : ℕ) (t : Bool) → pick t (go n) (refuses 4) ≡ and_then (pick t (gives (pos + n)) (refuses 4)) here
+      by2 n true = same n
+      by2 n false = refl
 
-module _ (s : List ℕ) (pos : ℕ) {v n : ℕ} (f : FoundAt s pos v n) where
-  pub kind_short : n ≡ 0 → paper_kind (K.Refused 1) ≡ peek_kind (drop pos s)
-  unfolding paper_kind peek_kind
-  kind_short z = after_short s pos f _ z
+      by : (a : Answer (ℕ × ℕ)) → and_then a (λ (len, n). pick (ltb n (length (drop pos s))) (go n) (refuses 4))
+          ≡ and_then (and_then a (λ (len, n). pick (ltb (pos + n) (length s)) (gives (pos + n)) (refuses 4))) here
+      by (gives p) = rw (there p.1) (by2 p.1 (ltb (pos + p.1) (length s)))
+      by (refuses k) = refl
 
-  pub kind_long : 10 < n → paper_kind (K.Refused 2) ≡ peek_kind (drop pos s)
-  unfolding paper_kind peek_kind
-  kind_long l = after_long s pos f _ l
+  pub peek_kind_is : peek_kind (drop pos s) ≡ and_then (kind_place s pos) (λ at. gives (get_or s at 0))
+  unfolding peek_kind read_u64
+  peek_kind_is = at_kind (λ at. gives (get_or s at 0)) (λ n. gives (get_or (drop pos s) n 0)) (λ n. ap gives (get_or-drop pos s n 0))
 
-  pub rowid_peek_short : n ≡ 0 → paper_rowid (R.Refused 1) ≡ peek_rowid (drop pos s)
-  unfolding paper_rowid peek_rowid
-  rowid_peek_short z = after_short s pos f _ z
+  rowid_moved : (n : ℕ) → rowid_at (drop pos s) (n + 1) ≡ rowid_at s (pos + n + 1)
+  unfolding rowid_at read_i64 read_u64
+  rowid_moved n = let e : pos + (n + 1) ≡ pos + n + 1 = omega arith in rw (drop-drop (n + 1) pos s, e)
 
-  pub rowid_peek_long : 10 < n → paper_rowid (R.Refused 2) ≡ peek_rowid (drop pos s)
-  unfolding paper_rowid peek_rowid
-  rowid_peek_long l = after_long s pos f _ l
+  pub peek_rowid_is : peek_rowid (drop pos s) ≡ and_then (kind_place s pos) (λ at. rowid_at s (at + 1))
+  unfolding peek_rowid read_u64
+  peek_rowid_is = at_kind (λ at. rowid_at s (at + 1)) (λ n. rowid_at (drop pos s) (n + 1)) rowid_moved
 
-  pub size_short : n ≡ 0 → paper_size (M.Refused 1) ≡ size_at (drop pos s)
-  unfolding paper_size size_at
-  size_short z = after_short s pos f _ z
-
-  pub size_long : 10 < n → paper_size (M.Refused 2) ≡ size_at (drop pos s)
-  unfolding paper_size size_at
-  size_long l = after_long s pos f _ l
-
-  module _ (z : n ≡ 0 → ⊥) (l : n ≤ 10) where
-    pub peek_fits : length s * 1 < 2 ^ 63 → Fits w64 (pos + n)
-    peek_fits b = let i = at_inside s pos f z l in record { fits = omega arith }
-
-    pub size_passes : 2 ^ 64 - 1 - n < v → paper_size (M.Refused 3) ≡ size_at (drop pos s)
-    unfolding paper_size size_at pick
-    size_passes h = rw (← after_value s pos f _ z l, lt-ltb (2 ^ 64 - 1) (n + v) (omega arith))
-
-    pub size_given : v ≤ 2 ^ 64 - 1 - n → paper_size (M.Bytes (n + v)) ≡ size_at (drop pos s)
-    unfolding paper_size size_at pick
-    size_given h = rw (← after_value s pos f _ z l, le-ltb (2 ^ 64 - 1) (n + v) (omega arith))
-
-    module _ (m : length s ≤ pos + n) where
-      missing : length (drop pos s) ≤ n
-      missing = rw (length-drop pos s) (omega arith)
-
-      pub kind_missing : paper_kind (K.Refused 4) ≡ peek_kind (drop pos s)
-      unfolding paper_kind peek_kind pick
-      kind_missing = rw (← after_value s pos f _ z l, le-ltb n (length (drop pos s)) missing)
-
-      pub rowid_missing : paper_rowid (R.Refused 4) ≡ peek_rowid (drop pos s)
-      unfolding paper_rowid peek_rowid pick
-      rowid_missing = rw (← after_value s pos f _ z l, le-ltb n (length (drop pos s)) missing)
-
-    module _ (m : pos + n < length s) where
-      there : n < length (drop pos s)
-      there = rw (length-drop pos s) (omega arith)
-
-      pub kind_given : paper_kind (K.Kind (get_or s (pos + n) 0)) ≡ peek_kind (drop pos s)
-      unfolding paper_kind peek_kind pick
-      kind_given = rw (← after_value s pos f _ z l, lt-ltb n (length (drop pos s)) there, get_or-drop pos s n 0)
-
-      -- the rowid stands behind the kind byte
-      pub rowid_there : {a : Answer ℤ} → a ≡ rowid_at s (pos + n + 1) → a ≡ peek_rowid (drop pos s)
-      unfolding peek_rowid rowid_at pick read_i64 read_u64
-      rowid_there p =
-          let e : pos + (n + 1) ≡ pos + n + 1 = omega arith in
-          rw (← after_value s pos f _ z l, lt-ltb n (length (drop pos s)) there, drop-drop (n + 1) pos s, e) p
-
-module _ (s : List ℕ) (at : ℕ) {v n : ℕ} (f : FoundAt s at v n) where
-  pub rowid_cut : n ≡ 0 → paper_rowid (R.Refused 1) ≡ rowid_at s at
-  unfolding paper_rowid rowid_at and_then
-  rowid_cut e = rw (← signed_refuses s at (at_short s at f e))
-
-  pub rowid_endless : 10 < n → paper_rowid (R.Refused 2) ≡ rowid_at s at
-  unfolding paper_rowid rowid_at and_then
-  rowid_endless e = rw (← signed_refuses s at (at_long s at f e))
-
-  pub rowid_given : {x : ℤ} → (n ≡ 0 → ⊥) → n ≤ 10 → x ≡ unzigzag v → paper_rowid (R.Rowid x) ≡ rowid_at s at
-  unfolding paper_rowid rowid_at and_then
-  rowid_given e h d = rw (← signed_gives s at (at_value s at f e h) d)
-
-pub ruleset peeks = (
-  paper,
-  kind_short,
-  kind_long,
-  kind_missing,
-  kind_given,
-  rowid_peek_short,
-  rowid_peek_long,
-  rowid_missing,
-  rowid_there,
-  rowid_cut,
-  rowid_endless,
-  rowid_given,
-  size_short,
-  size_long,
-  size_passes,
-  size_given,
-  peek_fits,
-)
+pub ruleset peeks = (at_inside, kind_inside, peek_kind_is, peek_rowid_is, read_as_i64)

@@ -3,10 +3,7 @@
 use Rattle.std.proofs.Common.{◌≡◌, ℕ, ◌+◌, ◌-◌, ◌<◌, ◌≤◌, List, [], ◌∷◌, ◌++◌, length, get_or, take, drop, set, sym, refl, ap, ◌∙◌, append_assoc, append-nil, zero-add, add-one, arith, length-append, length-drop, length-set, drop_of_length-le, length-take-le, take_all, drop-cons, drop-drop, take_at, drop_at, le-ltb, lt-ltb}
 use lib.Seq.{sets, sets-eq}
 use borrow.Rule.Slice.PartMut.{put_mid}
-use Rattle.paper.proofs.Laws.{paper}
-use Rattle.paper.specs.Answer.{pick, over, put, size_of}
-use Rattle.varint.specs.Paper.{paper_wrote}
-use Rattle.varint.specs.declared.Wrote.TheVariants as W
+use Rattle.paper.specs.Answer.{gives, refuses, pick, over, put, size_of}
 use Rattle.cell.specs.Entry.{fitted}
 use Rattle.cell.specs.Keyed.{over_at}
 
@@ -63,18 +60,24 @@ module _ (out a b x new : List ℕ) (n : ℕ) where
       let k : length x ≡ length out = ap length d ∙ length_over out a (omega arith) in
       lent x n b f (omega arith) ∙ rw d (over_then out a b n e l)
 
+-- the same, where the first wrote one byte
+pub first_then : (out b new : List ℕ) (v : ℕ) → 1 + length b ≤ length out → new ≡ over (take (length (set out 0 v) - 1) (drop 1 (set out 0 v))) b
+    → put_mid 1 (length (set out 0 v) - 1) (set out 0 v) new ≡ over out (v ∷ b)
+first_then out b new v l e =
+    then_over out (v ∷ []) b (set out 0 v) new 1 (set_first out v (omega arith)) refl (omega arith) e
+
 -- ---- an entry into an output: the room decides
 module _ (out entry : List ℕ) {n : ℕ} (e : length entry ≡ n) where
-  pub short_size : length out < n → paper_wrote (W.Refused 16) ≡ size_of (fitted (length out) entry)
-  unfolding paper_wrote size_of fitted pick
+  pub short_size : length out < n → refuses 16 ≡ size_of (fitted (length out) entry)
+  unfolding size_of fitted pick
   short_size l = rw (lt-ltb (length out) (length entry) (rw e l))
 
   pub short_output : length out < n → out ≡ put out (fitted (length out) entry)
   unfolding put fitted pick
   short_output l = rw (lt-ltb (length out) (length entry) (rw e l))
 
-  pub whole_size : n ≤ length out → paper_wrote (W.Bytes n) ≡ size_of (fitted (length out) entry)
-  unfolding paper_wrote size_of fitted pick
+  pub whole_size : n ≤ length out → gives n ≡ size_of (fitted (length out) entry)
+  unfolding size_of fitted pick
   whole_size l = rw (le-ltb (length out) (length entry) (rw e l), e)
 
   pub whole_output : n ≤ length out → over out entry ≡ put out (fitted (length out) entry)
@@ -111,14 +114,3 @@ module _ {out₀ bytes out : List ℕ} {i : ℕ} (w : Storing out₀ bytes out i
       let e : out ≡ sets out₀ 0 bytes = rw (drop_of_length-le bytes h) at w.same in
       let l : 0 + length bytes ≤ length out₀ = omega (arith, w.room) in
       e ∙ sets-eq bytes out₀ 0 l ∙ ap (λ (n : ℕ). bytes ++ drop n out₀) z
-
-pub ruleset placing = (
-  paper,
-  set_first,
-  then_over,
-  length_over,
-  storing_start,
-  storing_inside,
-  storing_more,
-  storing_done,
-)

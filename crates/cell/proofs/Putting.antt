@@ -1,134 +1,108 @@
 -- The loop that writes the value blocks: what is left, written from here on, fills the output as the answer does.
 -- Assumes nothing.
-use Rattle.std.proofs.Common.{◌≡◌, ℕ, zero, suc, ◌+◌, ◌-◌, ◌/◌, ◌^◌, ◌<◌, ◌≤◌, List, [], ◌++◌, length, get_or, take, drop, sym, refl, ap, ◌∙◌, add-one, arith, length-append, length-drop, take-append-drop, drop_of_length-le, drop-cons, drop-drop, w64, Fits}
+use Rattle.std.proofs.Common.{◌≡◌, ℕ, ◌+◌, ◌-◌, ◌^◌, ◌<◌, ◌≤◌, List, ◌∷◌, ◌++◌, length, take, drop, sym, refl, ◌∙◌, arith, length-append, length-drop, take-append-drop, w64, Fits}
 use borrow.Rule.Slice.PartMut.{put_mid}
 use Rattle.paper.specs.Answer.{over}
+use Rattle.std.specs.Int.{from_le_bytes}
 use Rattle.cell.specs.Written.{block_bytes, blocks_bytes}
-use Rattle.cell.specs.ValueList.{words_of}
-use Rattle.cell.specs.Listing.{word_list, used, held, used_all, held_all}
+use Rattle.cell.specs.Listing.{numbers, used, held, used_all, held_all}
 use Rattle.cell.specs.Keyed.{over_at}
 use Rattle.cell.proofs.Placing.{lent, at_then, rest_all, length_at}
-use Rattle.cell.proofs.BlockWriting.{used_none, held_none, blocks}
+use Rattle.cell.proofs.BlockWriting.{used_none, held_none}
+use Rattle.cell.proofs.Pairing.{turn_words, turn_even, empty, no_turn}
 
--- what the columns from column i on write, their data from place from on
-abbrev left : List ℕ → List ℕ → List ℕ → ℕ → ℕ → List ℕ
-left kinds words rest i from = blocks_bytes (held_all (drop i kinds) (drop i words) (drop from rest))
+-- what is left writes this
+abbrev remains : List ℕ → List (List ℕ) → List ℕ → List ℕ
+remains kinds words rest = blocks_bytes (held_all kinds (numbers words) rest)
 
-pub record Putting (out₀ kinds words rest out : List ℕ) (i from at : ℕ) : Type 0 where
-  pub long : length out ≡ length out₀
-  pub even : length words ≡ length kinds
-  pub inside : i ≤ length kinds
-  pub fits : from + used_all (drop i kinds) (drop i words) ≤ length rest
-  pub room : at + length (blocks_bytes (held_all (drop i kinds) (drop i words) (drop from rest))) ≤ length out
-  pub same : over_at out at (blocks_bytes (held_all (drop i kinds) (drop i words) (drop from rest))) ≡ over out₀ (blocks_bytes (held_all kinds words rest))
+-- what is left: kinds, their words, and their data; and where the next block stands
+pub record Putting (old kinds words all out left : List ℕ) (words_left : List (List ℕ)) (rest : List ℕ) (at : ℕ) : Type 0 where
+  pub long : length out ≡ length old
+  pub even : length words_left ≡ length left
+  pub within : length rest ≤ length all
+  pub fits : used_all left (numbers words_left) ≤ length rest
+  pub room : at + length (blocks_bytes (held_all left (numbers words_left) rest)) ≤ length out
+  pub same : over_at out at (blocks_bytes (held_all left (numbers words_left) rest)) ≡ over old (blocks_bytes (held_all kinds words all))
 
-words_length : (n : ℕ) (s : List ℕ) → length (words_of n s) ≡ n
-unfolding words_of
-words_length zero s = refl
-words_length (suc n) s = ap suc (words_length n (drop 8 s))
-
-pub list_length : (words : List ℕ) → length (word_list words) ≡ length words / 8
-unfolding word_list
-list_length words = words_length (length words / 8) words
-
-pub putting_start : {out kinds rest : List ℕ} (words : List ℕ) → length kinds ≡ length words / 8
-    → used_all kinds (word_list words) ≤ length rest → length (blocks_bytes (held_all kinds (word_list words) rest)) ≤ length out
-    → Putting out kinds (word_list words) rest out 0 0 0
-putting_start words e f l =
+pub putting_start : (out kinds : List ℕ) (words : List (List ℕ)) (all : List ℕ) → length words ≡ length kinds
+    → used_all kinds (numbers words) ≤ length all → length (blocks_bytes (held_all kinds (numbers words) all)) ≤ length out
+    → Putting out kinds (numbers words) all out kinds words all 0
+putting_start out kinds words all e f l =
     record {
       long = refl;
-      even = list_length words ∙ sym e;
-      inside = omega arith;
-      fits = omega arith;
+      even = e;
+      within = omega arith;
+      fits = f;
       room = omega arith;
       same = refl;
     }
 
-module _ {out₀ kinds words rest out : List ℕ} {i from at : ℕ} (w : Putting out₀ kinds words rest out i from at) where
-  pub putting_done : length kinds ≤ i → out ≡ over out₀ (blocks_bytes (held_all kinds words rest))
+module _ {old kinds words all out left : List ℕ} {words_left : List (List ℕ)} {rest : List ℕ} {at : ℕ} (w : Putting old kinds words all out left words_left rest at) where
+  pub putting_done : length left ≡ 0 → out ≡ over old (blocks_bytes (held_all kinds words all))
   unfolding blocks_bytes held_all over
-  putting_done h =
-      let d : drop i kinds ≡ [] = drop_of_length-le kinds h in
-      sym (take-append-drop at out) ∙ (rw d at w.same)
+  putting_done h = sym (take-append-drop at out) ∙ (rw (empty left h) at w.same)
 
-  module _ (h : i < length kinds) {word : ℕ} (e : word ≡ get_or words i 0) where
-    left_is : left kinds words rest i from ≡ block_bytes (held (get_or kinds i 0) word (drop from rest)) ++ left kinds words rest (i + 1) (from + used (get_or kinds i 0) word)
-    unfolding blocks_bytes held_all
-    left_is =
-        let l : i < length words = omega (arith, w.even) in
-        rw (e, drop-cons kinds i 0 h, drop-cons words i 0 l, drop-drop (used (get_or kinds i 0) (get_or words i 0)) from rest, add-one i)
-
-    used_is : used_all (drop i kinds) (drop i words) ≡ used (get_or kinds i 0) word + used_all (drop (i + 1) kinds) (drop (i + 1) words)
-    unfolding used_all
-    used_is =
-        let l : i < length words = omega (arith, w.even) in
-        rw (e, drop-cons kinds i 0 h, drop-cons words i 0 l, add-one i)
-
+  module _ {kind : ℕ} {eight left' : List ℕ} {words' : List (List ℕ)} (t : (left ≡ kind ∷ left') × (words_left ≡ eight ∷ words')) where
     -- a null writes nothing
-    pub putting_null : 4 < get_or kinds i 0 → Putting out₀ kinds words rest out (i + 1) from at
-    unfolding block_bytes
+    pub putting_null : 4 < kind → Putting old kinds words all out left' words' rest at
+    unfolding block_bytes blocks_bytes held_all used_all
     putting_null k =
-        let z : from + used (get_or kinds i 0) word ≡ from = omega (arith, used_none (get_or kinds i 0) word (λ e. omega arith) (λ e. omega arith)) in
-        let n : left kinds words rest i from ≡ left kinds words rest (i + 1) from
-        = rw (held_none (get_or kinds i 0) word (drop from rest) k, z) at left_is in
+        let v : ℕ = from_le_bytes w64 eight in
+        let z : used kind v ≡ 0 = used_none kind v k in
+        let n : remains left words_left rest ≡ remains left' words' rest = rw (t.0, turn_words t {v = v} refl, held_none kind v rest k, z) in
+        let u : used_all left (numbers words_left) ≡ used_all left' (numbers words') = rw (t.0, turn_words t {v = v} refl, z) (omega arith) in
         record {
           long = w.long;
-          even = w.even;
-          inside = omega arith;
-          fits = omega (arith, used_is, w.fits);
+          even = turn_even t w.even;
+          within = w.within;
+          fits = rw u at w.fits;
           room = rw n at w.room;
           same = rw n at w.same;
         }
 
-    pub putting_used : from + used (get_or kinds i 0) word ≤ length rest
-    putting_used = let l : from + used_all (drop i kinds) (drop i words) ≤ length rest = w.fits in omega (arith, used_is)
+    module _ {tag word : ℕ} (f : kind ≡ tag) (e : word ≡ from_le_bytes w64 eight) where
+      remains_is : remains left words_left rest ≡ block_bytes (held tag word rest) ++ remains left' words' (drop (used tag word) rest)
+      unfolding blocks_bytes held_all
+      remains_is = rw (← f, t.0, turn_words t e)
 
-    pub putting_below : length rest < 2 ^ 64 → used (get_or kinds i 0) word < 2 ^ 64
-    putting_below l = omega (arith, putting_used)
+      used_is : used_all left (numbers words_left) ≡ used tag word + used_all left' (numbers words')
+      unfolding used_all
+      used_is = rw (← f, t.0, turn_words t e)
 
-    left_room : at + length (block_bytes (held (get_or kinds i 0) word (drop from rest))) + length (left kinds words rest (i + 1) (from + used (get_or kinds i 0) word)) ≤ length out
-    left_room =
-        let l : at + length (block_bytes (held (get_or kinds i 0) word (drop from rest)) ++ left kinds words rest (i + 1) (from + used (get_or kinds i 0) word)) ≤ length out
-        = rw left_is at w.room in
-        let k = length-append (block_bytes (held (get_or kinds i 0) word (drop from rest))) (left kinds words rest (i + 1) (from + used (get_or kinds i 0) word)) in
-        omega arith
+      pub putting_used : used tag word ≤ length rest
+      putting_used = omega (arith, used_is, w.fits)
 
-    pub putting_room : length (block_bytes (held (get_or kinds i 0) word (drop from rest))) ≤ length (take (length out - at) (drop at out))
-    putting_room = rw (rest_all out at, length-drop at out) (omega (arith, left_room))
+      pub putting_below : length all < 2 ^ 64 → used tag word < 2 ^ 64
+      putting_below l = omega (arith, putting_used, w.within)
 
-    pub putting_at : {n : ℕ} → n ≡ length (block_bytes (held (get_or kinds i 0) word (drop from rest))) → length out₀ < 2 ^ 64 → Fits w64 (at + n)
-    putting_at d l = record { fits = omega (arith, left_room, w.long) }
+      remains_room : at + length (block_bytes (held tag word rest)) + length (remains left' words' (drop (used tag word) rest)) ≤ length out
+      remains_room =
+          let l : at + length (block_bytes (held tag word rest) ++ remains left' words' (drop (used tag word) rest)) ≤ length out = rw remains_is at w.room in
+          let k = length-append (block_bytes (held tag word rest)) (remains left' words' (drop (used tag word) rest)) in
+          omega arith
 
-    module _ {u : ℕ} (f : u ≡ used (get_or kinds i 0) word) where
-      pub putting_from : length rest < 2 ^ 64 → Fits w64 (from + u)
-      putting_from l = record { fits = omega (arith, putting_used) }
+      pub putting_room : length (block_bytes (held tag word rest)) ≤ length (take (length out - at) (drop at out))
+      putting_room = rw (rest_all out at, length-drop at out) (omega (arith, remains_room))
 
-      pub putting_more : {n : ℕ} {new : List ℕ} → n ≡ length (block_bytes (held (get_or kinds i 0) word (drop from rest)))
-          → new ≡ over (take (length out - at) (drop at out)) (block_bytes (held (get_or kinds i 0) word (drop from rest)))
-          → Putting out₀ kinds words rest (put_mid at (length out - at) out new) (i + 1) (from + u) (at + n)
-      putting_more {n} {new} d g =
-          let b : List ℕ = block_bytes (held (get_or kinds i 0) word (drop from rest)) in
-          let x : put_mid at (length out - at) out new ≡ over_at out at b = lent out at b g (omega (arith, left_room)) in
-          let k : length (over_at out at b) ≡ length out = length_at out at b (omega (arith, left_room)) in
-          rw (x, f)
+      pub putting_at : {n : ℕ} → n ≡ length (block_bytes (held tag word rest)) → length old < 2 ^ 64 → Fits w64 (at + n)
+      putting_at d l = record { fits = omega (arith, remains_room, w.long) }
+
+      pub putting_more : {u n : ℕ} {new : List ℕ} → u ≡ used tag word → n ≡ length (block_bytes (held tag word rest))
+          → new ≡ over (take (length out - at) (drop at out)) (block_bytes (held tag word rest))
+          → Putting old kinds words all (put_mid at (length out - at) out new) left' words' (take (length rest - u) (drop u rest)) (at + n)
+      putting_more {u} {n} {new} f d g =
+          let b : List ℕ = block_bytes (held tag word rest) in
+          let x : put_mid at (length out - at) out new ≡ over_at out at b = lent out at b g (omega (arith, remains_room)) in
+          let k : length (over_at out at b) ≡ length out = length_at out at b (omega (arith, remains_room)) in
+          let s : over_at out at (b ++ remains left' words' (drop (used tag word) rest)) ≡ over old (blocks_bytes (held_all kinds words all)) = rw remains_is at w.same in
+          rw (x, rest_all rest u, f)
           record {
             long = k ∙ w.long;
-            even = w.even;
-            inside = omega arith;
-            fits = omega (arith, used_is, w.fits);
-            room = rw k (omega (arith, left_room));
-            same = at_then out at b (left kinds words rest (i + 1) (from + used (get_or kinds i 0) word)) n d (omega (arith, left_room)) ∙ (rw left_is at w.same);
+            even = turn_even t w.even;
+            within = omega (arith, w.within, length-drop (used tag word) rest);
+            fits = omega (arith, used_is, w.fits, length-drop (used tag word) rest);
+            room = rw k (omega (arith, remains_room));
+            same = at_then out at b (remains left' words' (drop (used tag word) rest)) n d (omega (arith, remains_room)) ∙ s;
           }
 
-pub ruleset putting = (
-  blocks,
-  putting_start,
-  putting_done,
-  putting_null,
-  putting_used,
-  putting_below,
-  putting_room,
-  putting_at,
-  putting_from,
-  putting_more,
-)
+pub ruleset putting = (no_turn, putting_start, putting_done, putting_null, putting_used, putting_below, putting_room, putting_at, putting_more)

@@ -1,233 +1,186 @@
--- A value by its column: the float of a pattern, the value of a block, the block of a column, and the entry around it.
+-- A value by its column: the value of a block, the block of a column, and the entry around it.
 -- Assumes nothing.
-use Rattle.std.proofs.Common.{◌≡◌, ℕ, zero, suc, ◌+◌, ◌-◌, ◌*◌, ◌/◌, ◌%◌, ◌^◌, ◌<◌, ◌≤◌, Bool, true, false, not, T, eqb, ltb, List, length, get_or, take, drop, ℤ, sym, refl, ap, ◌∙◌, add-zero, zero-add, arith, length-drop, length-take, w64, Fits, ltb-false, ltb-true, le-ltb, lt-ltb, ne_eqb, eqb-true}
-use lib.Ieee.{Float, nan, inf, fin, of_bits, binary64, is_nan, nan_bits, div}
-use lib.Ieee.Bits.{nan_bits_is, nan_bits_above}
-use borrow.Author.Tests.{eqb-false}
-use Rattle.paper.specs.Answer.{Answer, gives, refuses, and_then, pick}
-use Rattle.paper.specs.Coded.{Coded}
-use Rattle.paper.proofs.Coding.{is_place, is_refusal}
-use Rattle.paper.proofs.Laws.{paper, gives_one, gives_refuses, first}
+use Rattle.std.specs.Prelude.{Result, Ok, Err, IsOk}
+use Rattle.std.proofs.Common.{◌≡◌, ℕ, zero, suc, ◌+◌, ◌-◌, ◌/◌, ◌^◌, ◌<◌, ◌≤◌, Bool, true, false, not, eqb, ltb, w64, Fits, List, length, get_or, take, drop, drop_of_length-le, ℤ, sym, refl, ap, ◌∙◌, add-zero, zero-add, arith, length-drop, ltb-false, ltb-true, le-ltb, lt-ltb}
+use lib.Ieee.{Float, of_bits, binary64}
+use Rattle.std.proofs.lemmas.List.{take_rest}
+use Rattle.paper.specs.Answer.{Answer, gives, refuses, answer_of, and_then, pick}
+use Rattle.paper.specs.declared.Refusal.{Refusal}
+use Rattle.paper.proofs.Laws.{gives_one, gives_refuses, first}
 use Rattle.field.specs.Field.{le}
 use Rattle.field.proofs.Laws.{le_drop}
-use Rattle.varint.specs.Leb.{read_u64}
-use Rattle.varint.specs.Number.{read_i64}
-use Rattle.varint.specs.Scan.{FoundAt}
+use Rattle.varint.specs.Leb.{read_u64, read_from, taken}
+use Rattle.varint.specs.Number.{read_as, read_i64}
 use Rattle.varint.specs.Zigzag.{unzigzag}
-use Rattle.varint.proofs.Places.{found_past, at_short, at_long, at_value, at_inside}
+use Rattle.varint.proofs.Places.{read_as_i64}
 use Rattle.utf8.specs.WellFormed.{check_at}
+use Rattle.utf8.proofs.Laws.{gives_inside}
+use Rattle.cell.specs.Tag.{Tagged, tag_byte}
+use Rattle.cell.specs.declared.tag.Tag.{Tag}
 use Rattle.cell.specs.Entry.{framed}
 use Rattle.cell.specs.Block.{Block, null, integer, real, bool, text, vector, block, block_of, columns, is_null, bitmap_bytes}
 use Rattle.cell.specs.Local.{moved, nth, value_from, value_at}
-use Rattle.cell.specs.Words.{column_end, columns_end, Locally, Frame}
-use Rattle.cell.specs.ByColumn.{read_or, block_at, column_at, body_value, HasBlock, HasColumn}
-use Rattle.cell.specs.PaperValue.{paper_value, paper_asked}
-use Rattle.cell.specs.declared.value.Value.{Value}
-use Rattle.cell.specs.declared.value.Value.TheVariants as Val
-use Rattle.cell.specs.declared.value.Asked.TheVariants as Ask
-use Rattle.cell.proofs.Placing.{rest_all}
+use Rattle.cell.specs.Words.{counted, column_end, columns_end}
+use Rattle.cell.specs.Framing.{FrameAt}
+use Rattle.cell.specs.LocalRead.{AllRead, ReadsToEnd}
+use Rattle.cell.specs.ByColumn.{read_or, block_at, column_at, HasBlock, HasColumn}
+use Rattle.cell.specs.declared.inner.columns.Columns.{Columns}
+use Rattle.cell.specs.declared.inner.framing.Framed.{Framed}
+use Rattle.cell.specs.declared.inner.Local.{Local}
+use Rattle.cell.proofs.Accepting.{not_refused, not_other, then_gave}
+use Rattle.cell.proofs.Blocks.{counted_inside, unknown}
 use Rattle.cell.proofs.Columns.{reading, first_of, columns_step}
-use Rattle.cell.proofs.Heads.{columns_length, frame_number, frame_starts, frame_ends, local_number}
-
--- ---- the float of a pattern
-
-divided : div binary64 (of_bits binary64 0) (of_bits binary64 0) ≡ nan
-unfolding div of_bits
-divided = refl
-
-only_nan : (f : Float) → T (is_nan f) → f ≡ nan
-unfolding is_nan
-only_nan nan t = refl
-only_nan (inf s) t = absurd t
-only_nan (fin s m x) t = absurd t
-
--- the sign's bit taken off, a NaN's pattern is above the infinity's
-module _ (n : ℕ) where
-  above : nan_bits binary64 n ≡ ltb 0x7FF0000000000000 (n % 2 ^ 63)
-  above = nan_bits_above binary64 n
-
-  pub plain_pattern : n % 2 ^ 63 ≤ 0x7FF0000000000000 → T (not (nan_bits binary64 n))
-  plain_pattern l = rw (above, le-ltb 0x7FF0000000000000 (n % 2 ^ 63) l) tt
-
-  pub nan_pattern : 0x7FF0000000000000 < n % 2 ^ 63
-      → Val.Real (div binary64 (of_bits binary64 0) (of_bits binary64 0)) n ≡ Val.Real (of_bits binary64 n) n
-  nan_pattern l =
-      let t : T (is_nan (of_bits binary64 n)) = rw (← nan_bits_is binary64 n, above, lt-ltb 0x7FF0000000000000 (n % 2 ^ 63) l) tt in
-      ap (λ (f : Float). Val.Real f n) (divided ∙ sym (only_nan (of_bits binary64 n) t))
+use Rattle.cell.proofs.Heads.{columns_length}
 
 -- ---- the value of a block
 
--- the number that the code found is the one that the definition accepted, and lies inside
-accepted : {A : Type 0} {a : A} (body : List ℕ) (at : ℕ) {v n : ℕ} (k : ℕ × ℕ → Answer A) → FoundAt body at v n
-    → gives a ≡ and_then (read_u64 body at) k → (gives a ≡ k (v, n)) × (at + n ≤ length body)
-unfolding and_then
-accepted {A} {a} body at {v} {n} k f g = by (eqb n 0) refl (ltb 10 n) refl
-  where
-    by : (z : Bool) → eqb n 0 ≡ z → (l : Bool) → ltb 10 n ≡ l → (gives a ≡ k (v, n)) × (at + n ≤ length body)
-    by true z l m = absurd (gives_refuses (rw (← at_short body at f (eqb-true n 0 z)) at g))
-    by false z true m = absurd (gives_refuses (rw (← at_long body at f (ltb-true 10 n m)) at g))
-    by false z false m =
-        let d : (n ≡ 0 → ⊥) = eqb-false n 0 z in
-        let b : n ≤ 10 = ltb-false 10 n m in
-        (rw (← at_value body at f d b) at g, at_inside body at f d b)
+-- an answer of the code that stands for one that gives something is no refusal
+answer_ok : {A : Type 0} {a : A} (r : Result A Refusal) {q : Answer A} → answer_of r ≡ q → gives a ≡ q → IsOk r
+answer_ok (Ok x) e g = refl
+answer_ok (Err k) e g = absurd (gives_refuses (g ∙ sym e))
 
--- the block that was read
-block_is : (body : List ℕ) (at : ℕ) {b : Block} {end : ℕ} → gives (b, end) ≡ block body at → b ≡ block_at body at
-unfolding block_at read_or
-block_is body at g = rw (← g)
+answer_is : {A : Type 0} {r : Result A Refusal} {a : A} {q : Answer A} → answer_of r ≡ q → r ≡ Ok a → gives a ≡ q
+answer_is e d = rw d at e
 
--- the definition, as far as it was followed, still gives the block
-abbrev Gives : {body : List ℕ} {at : ℕ} → HasBlock body at → Answer (Block × ℕ) → Type 0
-Gives b q = gives (b.value, b.end) ≡ q
+pub tag_read : {t : ℕ} {r : Result Tag Refusal} {tag : Tag} → Tagged t r → r ≡ Ok tag → t ≡ tag_byte tag
+tag_read w d = rw d at w
+
+tagged_ok : {t : ℕ} (r : Result Tag Refusal) → Tagged t r → t ≤ 4 → IsOk r
+tagged_ok (Ok tag) w l = refl
+tagged_ok (Err k) w l = absurd (omega (arith, w.1))
+
+counted_by : (unit : ℕ) (body : List ℕ) (at : ℕ) {v n : ℕ} → read_u64 body at ≡ gives (v, n) → v ≤ (length body - (at + n)) / unit
+    → gives (at + n, v) ≡ counted unit body at
+unfolding and_then pick
+counted_by unit body at {v} {n} e l = rw (e, le-ltb ((length body - (at + n)) / unit) v l)
+
+-- what was read behind a tag, and the block that it makes
+record Made {A : Type 0} (q : Answer A) (make : A → Block) (block : Block) : Type 0 where
+  pair : A
+  found : gives pair ≡ q
+  is : make pair ≡ block
+
+made : {A : Type 0} {q : Answer A} {make : A → Block} {block : Block} → Made q make block → {p : A} → gives p ≡ q → make p ≡ block
+made {make = make} w e = ap make (gives_one (e ∙ sym w.found)) ∙ w.is
+
+block_here : (body : List ℕ) (at : ℕ) {b : Block} {end : ℕ} → gives (b, end) ≡ block body at → at < length body
+unfolding block pick
+block_here body at g = let (t, f) = not_other (ltb at (length body)) 7 _ (sym g) in ltb-true at (length body) t
 
 module _ (body : List ℕ) (at : ℕ) (b : HasBlock body at) where
-  pub block_here : at < length body
+  tag_is : {k : ℕ} → get_or body at 0 ≡ k → block_of k body (at + 1) ≡ gives (b.value, b.end)
   unfolding block pick
-  block_here = by (ltb at (length body)) refl b.read
+  tag_is e = let h : at < length body = b.here in rw (lt-ltb at (length body) h, e) at (sym b.read)
+
+  tag_known : get_or body at 0 ≤ 4
+  tag_known = by (ltb 4 (get_or body at 0)) refl
     where
-      by : (t : Bool) → ltb at (length body) ≡ t → Gives b (pick t (block_of (get_or body at 0) body (at + 1)) (refuses 7)) → at < length body
-      by true t g = ltb-true at (length body) t
-      by false t g = absurd (gives_refuses g)
+      by : (t : Bool) → ltb 4 (get_or body at 0) ≡ t → get_or body at 0 ≤ 4
+      by true t =
+          let l : 4 < get_or body at 0 = ltb-true 4 (get_or body at 0) t in
+          absurd (gives_refuses (sym (tag_is refl) ∙ unknown (get_or body at 0) body (at + 1) l))
+      by false t = ltb-false 4 (get_or body at 0) t
 
-  tag_is : {k : ℕ} → get_or body at 0 ≡ k → Gives b (block_of k body (at + 1))
-  unfolding block pick
-  tag_is e = rw (lt-ltb at (length body) block_here, e) at b.read
+  integer_made : get_or body at 0 ≡ 0 → Made (read_as unzigzag body (at + 1)) (λ p. integer p.0) b.value
+  unfolding block_of pick
+  integer_made e =
+      let (v, v-is, v-then) = then_gave (read_i64 body (at + 1)) _ (tag_is e) in
+      record { pair = v; found = sym (read_as_i64 body (at + 1) ∙ v-is); is = ap first (gives_one v-then) }
 
-  integer_is : {v n : ℕ} → get_or body at 0 ≡ 0 → FoundAt body (at + 1) v n → integer (unzigzag v) ≡ b.value
-  unfolding block_of pick read_i64 and_then
-  integer_is {v} {n} e f =
-      let (g, i) =
-      accepted body (at + 1) (λ (u, m). gives (integer (unzigzag u), at + 1 + m)) f (tag_is e ∙ joined (read_u64 body (at + 1))) in
-      sym (ap first (gives_one g))
-    where
-      joined : (a : Answer (ℕ × ℕ)) →
-          and_then {B = Block × ℕ} (and_then {B = ℤ × ℕ} a (λ (u, m). gives (unzigzag u, m))) (λ (z, m). gives (integer z, at + 1 + m))
-          ≡ and_then a (λ (u, m). gives (integer (unzigzag u), at + 1 + m))
-      joined (gives p) = refl
-      joined (refuses k) = refl
+  real_room : get_or body at 0 ≡ 1 → 8 ≤ length body - (at + 1)
+  unfolding block_of pick
+  real_room e =
+      let (t, g) = not_refused (ltb (length body - (at + 1)) 8) 7 _ (tag_is e) in
+      ltb-false (length body - (at + 1)) 8 t
 
-  module _ (e : get_or body at 0 ≡ 1) where
-    real_room : 8 ≤ length body - (at + 1)
-    unfolding block_of pick
-    real_room = by (ltb (length body - (at + 1)) 8) refl (tag_is e)
-      where
-        by : (t : Bool) → ltb (length body - (at + 1)) 8 ≡ t
-            → Gives b (pick t (refuses 7) (gives (real (of_bits binary64 (le 8 (at + 1) body)) (le 8 (at + 1) body), at + 1 + 8)))
-            → 8 ≤ length body - (at + 1)
-        by true t g = absurd (gives_refuses g)
-        by false t g = ltb-false (length body - (at + 1)) 8 t
+  real_is : get_or body at 0 ≡ 1 → real (of_bits binary64 (le 8 (at + 1) body)) (le 8 (at + 1) body) ≡ b.value
+  unfolding block_of pick
+  real_is e =
+      let (t, g) = not_refused (ltb (length body - (at + 1)) 8) 7 _ (tag_is e) in
+      ap first (gives_one g)
 
-    real_is : real (of_bits binary64 (le 8 (at + 1) body)) (le 8 (at + 1) body) ≡ b.value
-    unfolding block_of pick
-    real_is = sym (ap first (gives_one (rw (le-ltb (length body - (at + 1)) 8 real_room) at (tag_is e))))
+  text_made : get_or body at 0 ≡ 2 → Made (counted 1 body (at + 1)) (λ p. text p.0 p.1) b.value
+  unfolding block_of pick
+  text_made e =
+      let (v, v-is, v-then) = then_gave (read_u64 body (at + 1)) _ (tag_is e) in
+      let (w, w-is, w-then) = then_gave (check_at body (at + 1 + v.1) v.0) _ v-then in
+      let l : at + 1 + v.1 + v.0 ≤ length body = gives_inside body (at + 1 + v.1) v.0 w-is in
+      record { pair = (at + 1 + v.1, v.0); found = counted_by 1 body (at + 1) v-is (omega arith); is = ap first (gives_one w-then) }
 
-  module _ (e : get_or body at 0 ≡ 2) {v n : ℕ} (f : FoundAt body (at + 1) v n) where
-    text_found : (text (at + 1 + n) v ≡ b.value) × (at + 1 + n ≤ length body)
-    unfolding block_of pick and_then
-    text_found =
-        let (g, i) = accepted body (at + 1)
-        (λ (len, m). and_then (check_at body (at + 1 + m) len) (λ _. gives (text (at + 1 + m) len, at + 1 + m + len))) f (tag_is e) in
-        (by (check_at body (at + 1 + n) v) g, i)
-      where
-        by : {U : Type 0} (a : Answer U) → Gives b (and_then a (λ _. gives (text (at + 1 + n) v, at + 1 + n + v)))
-            → text (at + 1 + n) v ≡ b.value
-        by (gives u) g = sym (ap first (gives_one g))
-        by (refuses k) g = absurd (gives_refuses g)
+  bool_there : get_or body at 0 ≡ 3 → at + 1 < length body
+  unfolding block_of pick
+  bool_there e = let (t, g) = not_other (ltb (at + 1) (length body)) 7 _ (tag_is e) in ltb-true (at + 1) (length body) t
 
-  module _ (e : get_or body at 0 ≡ 3) where
-    bool_found : (bool (not (eqb (get_or body (at + 1) 0) 0)) ≡ b.value) × (at + 1 < length body)
-    unfolding block_of pick
-    bool_found = by (ltb (at + 1) (length body)) refl (tag_is e)
-      where
-        by : (t : Bool) → ltb (at + 1) (length body) ≡ t
-            → Gives b (pick t (gives (bool (not (eqb (get_or body (at + 1) 0) 0)), at + 1 + 1)) (refuses 7))
-            → (bool (not (eqb (get_or body (at + 1) 0) 0)) ≡ b.value) × (at + 1 < length body)
-        by true t g = (sym (ap first (gives_one g)), ltb-true (at + 1) (length body) t)
-        by false t g = absurd (gives_refuses g)
+  bool_is : get_or body at 0 ≡ 3 → bool (not (eqb (get_or body (at + 1) 0) 0)) ≡ b.value
+  unfolding block_of pick
+  bool_is e = let (t, g) = not_other (ltb (at + 1) (length body)) 7 _ (tag_is e) in ap first (gives_one g)
 
-  -- no other tag was accepted
-  module _ (n0 : get_or body at 0 ≡ 0 → ⊥) (n1 : get_or body at 0 ≡ 1 → ⊥) (n2 : get_or body at 0 ≡ 2 → ⊥) (n3 : get_or body at 0 ≡ 3 → ⊥)
-      {v n : ℕ} (f : FoundAt body (at + 1) v n) where
-    vector_found : (vector (at + 1 + n) v ≡ b.value) × (at + 1 + n ≤ length body)
-    unfolding block_of pick and_then
-    vector_found =
-        let t : ℕ = get_or body at 0 in
-        by (eqb t 4) (rw (ne_eqb t 0 n0, ne_eqb t 1 n1, ne_eqb t 2 n2, ne_eqb t 3 n3) at (tag_is refl))
-      where
-        after : ℕ × ℕ → Answer (Block × ℕ)
-        after (dim, m) =
-            pick (ltb ((length body - (at + 1 + m)) / 4) dim) (refuses 7) (gives (vector (at + 1 + m) dim, at + 1 + m + 4 * dim))
+  vector_made : get_or body at 0 ≡ 4 → Made (counted 4 body (at + 1)) (λ p. vector p.0 p.1) b.value
+  unfolding block_of pick
+  vector_made e =
+      let (v, v-is, v-then) = then_gave (read_u64 body (at + 1)) _ (tag_is e) in
+      let (t, g) = not_refused (ltb ((length body - (at + 1 + v.1)) / 4) v.0) 7 _ v-then in
+      let l : v.0 ≤ (length body - (at + 1 + v.1)) / 4 = ltb-false ((length body - (at + 1 + v.1)) / 4) v.0 t in
+      record { pair = (at + 1 + v.1, v.0); found = counted_by 4 body (at + 1) v-is l; is = ap first (gives_one g) }
 
-        by2 : (t : Bool) → Gives b (pick t (refuses 7) (gives (vector (at + 1 + n) v, at + 1 + n + 4 * v)))
-            → vector (at + 1 + n) v ≡ b.value
-        by2 true g = absurd (gives_refuses g)
-        by2 false g = sym (ap first (gives_one g))
+  -- so none of the code's steps refuses
+  pub tag_ok : (r : Result Tag Refusal) → Tagged (get_or body at 0) r → IsOk r
+  tag_ok r w = tagged_ok r w tag_known
 
-        by : (t : Bool) → Gives b (pick t (and_then (read_u64 body (at + 1)) after) (refuses 9))
-            → (vector (at + 1 + n) v ≡ b.value) × (at + 1 + n ≤ length body)
-        by true g = let (h, i) = accepted body (at + 1) after f g in (by2 (ltb ((length body - (at + 1 + n)) / 4) v) h, i)
-        by false g = absurd (gives_refuses g)
+  pub integer_ok : get_or body at 0 ≡ 0 → (r : Result (ℤ × ℕ) Refusal) → answer_of r ≡ read_as unzigzag body (at + 1) → IsOk r
+  integer_ok e r a = answer_ok r a (integer_made e).found
 
--- the same in the code's words, in the caller's buffer
+  pub text_ok : get_or body at 0 ≡ 2 → (r : Result (ℕ × ℕ) Refusal) → answer_of r ≡ counted 1 body (at + 1) → IsOk r
+  text_ok e r a = answer_ok r a (text_made e).found
+
+  pub vector_ok : get_or body at 0 ≡ 4 → (r : Result (ℕ × ℕ) Refusal) → answer_of r ≡ counted 4 body (at + 1) → IsOk r
+  vector_ok e r a = answer_ok r a (vector_made e).found
+
+-- the same in the code's words, in the caller's slice
 module _ (body : List ℕ) (at shift : ℕ) (b : HasBlock body at) where
-  paper_is : {x y : Block} → y ≡ moved shift x → x ≡ b.value → y ≡ moved shift (block_at body at)
-  paper_is p d = rw (← block_is body at b.read, ← d) p
+  block_is : {x : Block} → x ≡ b.value → moved shift (block_at body at) ≡ moved shift x
+  unfolding block_at read_or
+  block_is e = rw (← b.read, e)
 
-  pub next_fits : shift + length body < 2 ^ 63 → Fits w64 (at + 1)
-  next_fits l = let h = block_here body at b in record { fits = omega arith }
-
-  pub integer_value : {v n : ℕ} {z : ℤ} → get_or body at 0 ≡ 0 → FoundAt body (at + 1) v n → z ≡ unzigzag v
-      → paper_value (Val.Integer z) ≡ moved shift (block_at body at)
-  unfolding paper_value moved
-  integer_value {v} e f d = paper_is {x = integer (unzigzag v)} (rw d) (integer_is body at b e f)
+  pub integer_value : get_or body at 0 ≡ 0 → (r : Result (ℤ × ℕ) Refusal) → answer_of r ≡ read_as unzigzag body (at + 1)
+      → {z : ℤ} {p : ℤ × ℕ} → r ≡ Ok p → z ≡ p.0 → integer z ≡ moved shift (block_at body at)
+  unfolding moved
+  integer_value e r a d f = rw (block_is (made (integer_made body at b e) (answer_is a d)), f)
 
   module _ (e : get_or body at 0 ≡ 1) where
-    pub real_start : at + 1 ≤ length body
-    real_start = let h = block_here body at b in omega arith
-
     pub real_inside : 8 ≤ length (take (length body - (at + 1)) (drop (at + 1) body))
-    real_inside = rw (rest_all body (at + 1), length-drop (at + 1) body) (real_room body at b e)
+    real_inside = rw (take_rest body (at + 1), length-drop (at + 1) body) (real_room body at b e)
 
-    pub real_value : {r : Value} {bits : ℕ} → bits ≡ le 8 0 (take (length body - (at + 1)) (drop (at + 1) body))
-        → r ≡ Val.Real (of_bits binary64 bits) bits → paper_value r ≡ moved shift (block_at body at)
-    unfolding paper_value moved
-    real_value {r} {bits} d q =
-        let p : bits ≡ le 8 (at + 1) body = d ∙ ap (λ (s : List ℕ). le 8 0 s) (rest_all body (at + 1)) ∙ at_place in
-        paper_is {x = real (of_bits binary64 bits) bits} (rw q) (rw p (real_is body at b e))
-      where
-        at_place : le 8 0 (drop (at + 1) body) ≡ le 8 (at + 1) body
-        at_place = le_drop 8 0 (at + 1) body ∙ ap (λ (i : ℕ). le 8 i body) (add-zero (at + 1))
+    pub real_value : {float : Float} {bits : ℕ} → bits ≡ le 8 0 (take (length body - (at + 1)) (drop (at + 1) body)) → float ≡ of_bits binary64 bits
+        → real float bits ≡ moved shift (block_at body at)
+    unfolding moved
+    real_value {bits = bits} d q =
+        let p : bits ≡ le 8 (at + 1) body = d ∙ ap (le 8 0) (take_rest body (at + 1)) ∙ le_drop 8 0 (at + 1) body ∙ ap (λ (i : ℕ). le 8 i body) (add-zero (at + 1)) in
+        rw (q, block_is (real_is body at b e), p)
 
-  module _ (e : get_or body at 0 ≡ 2) {v n : ℕ} (f : FoundAt body (at + 1) v n) where
-    pub text_start : shift + length body < 2 ^ 63 → Fits w64 (at + 1 + n)
-    text_start l = let (d, i) = text_found body at b e f in record { fits = omega arith }
+  module _ (e : get_or body at 0 ≡ 2) (r : Result (ℕ × ℕ) Refusal) (a : answer_of r ≡ counted 1 body (at + 1)) {p : ℕ × ℕ} (d : r ≡ Ok p) where
+    pub text_place : shift + length body < 2 ^ 63 → Fits w64 (shift + p.0)
+    text_place l = let i = counted_inside 1 body (at + 1) (answer_is a d) in record { fits = omega arith }
 
-    pub text_place : shift + length body < 2 ^ 63 → Fits w64 (shift + (at + 1 + n))
-    text_place l = let (d, i) = text_found body at b e f in record { fits = omega arith }
-
-    pub text_value : paper_value (Val.Text (shift + (at + 1 + n)) v) ≡ moved shift (block_at body at)
-    unfolding paper_value moved
-    text_value = let (d, i) = text_found body at b e f in paper_is {x = text (at + 1 + n) v} refl d
+    pub text_value : text (shift + p.0) p.1 ≡ moved shift (block_at body at)
+    unfolding moved
+    text_value = rw (block_is (made (text_made body at b e) (answer_is a d)))
 
   module _ (e : get_or body at 0 ≡ 3) where
     pub bool_here : at + 1 < length body
-    bool_here = let (d, i) = bool_found body at b e in i
+    bool_here = bool_there body at b e
 
-    pub bool_value : paper_value (Val.Bool (not (eqb (get_or body (at + 1) 0) 0))) ≡ moved shift (block_at body at)
-    unfolding paper_value moved
-    bool_value = let (d, i) = bool_found body at b e in paper_is {x = bool (not (eqb (get_or body (at + 1) 0) 0))} refl d
+    pub bool_value : bool (not (eqb (get_or body (at + 1) 0) 0)) ≡ moved shift (block_at body at)
+    unfolding moved
+    bool_value = rw (block_is (bool_is body at b e))
 
-  module _ (n0 : get_or body at 0 ≡ 0 → ⊥) (n1 : get_or body at 0 ≡ 1 → ⊥) (n2 : get_or body at 0 ≡ 2 → ⊥) (n3 : get_or body at 0 ≡ 3 → ⊥)
-      {v n : ℕ} (f : FoundAt body (at + 1) v n) where
-    pub vector_start : shift + length body < 2 ^ 63 → Fits w64 (at + 1 + n)
-    vector_start l = let (d, i) = vector_found body at b n0 n1 n2 n3 f in record { fits = omega arith }
+  module _ (e : get_or body at 0 ≡ 4) (r : Result (ℕ × ℕ) Refusal) (a : answer_of r ≡ counted 4 body (at + 1)) {p : ℕ × ℕ} (d : r ≡ Ok p) where
+    pub vector_place : shift + length body < 2 ^ 63 → Fits w64 (shift + p.0)
+    vector_place l = let i = counted_inside 4 body (at + 1) (answer_is a d) in record { fits = omega arith }
 
-    pub vector_place : shift + length body < 2 ^ 63 → Fits w64 (shift + (at + 1 + n))
-    vector_place l = let (d, i) = vector_found body at b n0 n1 n2 n3 f in record { fits = omega arith }
-
-    pub vector_value : paper_value (Val.Vector (shift + (at + 1 + n)) v) ≡ moved shift (block_at body at)
-    unfolding paper_value moved
-    vector_value = let (d, i) = vector_found body at b n0 n1 n2 n3 f in paper_is {x = vector (at + 1 + n) v} refl d
+    pub vector_value : vector (shift + p.0) p.1 ≡ moved shift (block_at body at)
+    unfolding moved
+    vector_value = rw (block_is (made (vector_made body at b e) (answer_is a d)))
 
 -- ---- the block of a column
 
@@ -257,137 +210,89 @@ located (suc i) (suc n) c map body at g l =
       read = rw e r.read;
     })
 
-column_is : (count map : ℕ) (body : List ℕ) (column : ℕ) {bs : List Block} {end : ℕ}
-    → gives (bs, end) ≡ columns count 0 map body (map + bitmap_bytes count) → nth bs column ≡ column_at count map body column
+column_is : (c : Columns) (column : ℕ) (all : AllRead c) → nth all.blocks column ≡ column_at c column
 unfolding column_at read_or
-column_is count map body column g = rw (← g)
+column_is c column all = rw (← all.read)
 
-module _ {body : List ℕ} {count map column : ℕ} (k : HasColumn body count map column) where
-  here : Located column 0 map body (map + bitmap_bytes count) (nth k.blocks column)
-  here = located column count 0 map body (map + bitmap_bytes count) k.read k.one
+module _ (c : Columns) (column : ℕ) (h : HasColumn c column) where
+  here : Located column 0 c.map c.body.now (c.map + bitmap_bytes c.count) (nth h.all.blocks column)
+  here = located column c.count 0 c.map c.body.now (c.map + bitmap_bytes c.count) h.all.read h.one
 
-  module _ {t : Bool} (d : t ≡ is_null body map column) (shift : ℕ) where
-    pub null_value : t ≡ true → paper_value Val.Null ≡ moved shift (column_at count map body column)
-    unfolding paper_value moved pick
-    null_value e =
-        let p : null ≡ nth k.blocks column = sym (ap first (gives_one (rw (zero-add column, ← d, e) at here.read))) in
-        rw (← column_is count map body column k.read, ← p)
+  pub null_value : is_null c.body.now c.map column ≡ true → (shift : ℕ) → null ≡ moved shift (column_at c column)
+  unfolding moved pick
+  null_value e shift =
+      let p : nth h.all.blocks column ≡ null = ap first (gives_one (rw (zero-add column, e) at here.read)) in
+      rw (← column_is c column h.all, p)
 
-    -- the walk reached the column's block
-    module _ (e : t ≡ false) {b at : ℕ} (s : b ≡ bitmap_bytes count) (w : Coded (columns_end column 0 map body (map + b)) at) where
-      walked : at ≡ here.place
-      walked = by (ltb at (2 ^ 63)) refl
-        where
-          place : gives here.place ≡ columns_end column 0 map body (map + b)
-          place = rw s here.reached
+  -- the walk reached the column's block
+  module _ (r : Result ℕ Refusal) (a : answer_of r ≡ columns_end column 0 c.map c.body.now (c.map + bitmap_bytes c.count)) where
+    pub walk_ok : IsOk r
+    walk_ok = answer_ok r a here.reached
 
-          by : (u : Bool) → ltb at (2 ^ 63) ≡ u → at ≡ here.place
-          by true u = gives_one (is_place w (ltb-true at (2 ^ 63) u) ∙ sym place)
-          by false u = absurd (gives_refuses (place ∙ sym (is_refusal w (ltb-false at (2 ^ 63) u) refl)))
-
-      there : gives (nth k.blocks column, here.next) ≡ block body at
+    module _ {at : ℕ} (d : r ≡ Ok at) (e : is_null c.body.now c.map column ≡ false) where
+      there : gives (nth h.all.blocks column, here.next) ≡ block c.body.now at
       unfolding pick
-      there = rw walked (rw (zero-add column, ← d, e) at here.read)
+      there =
+          let w : here.place ≡ at = gives_one (here.reached ∙ sym (answer_is a d)) in
+          rw (zero-add column, e, w) at here.read
 
-      pub block_there : HasBlock body at
-      block_there = record { value = nth k.blocks column; end = here.next; read = there }
+      pub block_there : HasBlock c.body.now at
+      block_there = record { here = block_here c.body.now at there; value = nth h.all.blocks column; end = here.next; read = there }
 
-      pub block_value : {x : Block} → x ≡ moved shift (block_at body at) → x ≡ moved shift (column_at count map body column)
-      block_value p = rw (← column_is count map body column k.read, block_is body at there) p
+      pub block_value : (shift : ℕ) {x : Block} → x ≡ moved shift (block_at c.body.now at) → x ≡ moved shift (column_at c column)
+      unfolding block_at read_or
+      block_value shift p = rw (← column_is c column h.all) (rw (← there) at p)
 
--- ---- the body, and the entry around it
-module _ (body : List ℕ) {rowid count map end : ℕ} (k : Locally body rowid count map end) (shift column : ℕ) where
-  pub body_refused : {r : ℕ} → 2 ^ 63 ≤ end → r ≡ 2 ^ 64 - 1 - end → paper_asked (Ask.Refused r) ≡ body_value body shift column
-  unfolding paper_asked body_value and_then
-  body_refused l d = rw (← k.refused l, d)
+-- ---- the entry at the start of a list, which is place pos of the caller's slice
+module _ (s : List ℕ) (pos column : ℕ) {f : Framed} {l : Local} (w : FrameAt s f) (r : ReadsToEnd (take (f.end - f.at) (drop f.at s)) l) where
+  decides : value_from s pos column ≡ pick (ltb column l.columns.count) (gives (moved (pos + f.at) (column_at l.columns column))) (refuses 12)
+  unfolding value_from and_then
+  decides =
+      let n : length r.all.blocks ≡ l.columns.count = columns_length l.columns.count 0 l.columns.map _ _ r.all.read in
+      rw (← w.given, ← r.same, n, column_is l.columns column r.all)
 
-  module _ (l : end < 2 ^ 63) where
-    body_decides : body_value body shift column ≡ pick (ltb column count) (gives (moved shift (nth (k.given l).blocks column))) (refuses 12)
-    unfolding body_value and_then
-    body_decides =
-        let g = k.given l in
-        let e : length g.blocks ≡ count = columns_length count 0 map body (map + bitmap_bytes count) g.walk in
-        rw (← g.read, e)
+  pub value_above : l.columns.count ≤ column → refuses 12 ≡ value_from s pos column
+  unfolding pick
+  value_above h = rw (decides, le-ltb column l.columns.count h)
 
-    pub body_past : count ≤ column → paper_asked (Ask.Refused 12) ≡ body_value body shift column
-    unfolding paper_asked pick
-    body_past h = rw (body_decides, le-ltb column count h)
+  pub value_given : {b : Block} → column < l.columns.count → b ≡ moved (pos + f.at) (column_at l.columns column) → gives b ≡ value_from s pos column
+  unfolding pick
+  value_given h e = rw (decides, lt-ltb column l.columns.count h, e)
 
-    module _ (h : column < count) where
-      pub column_of : HasColumn body count map column
-      column_of = let g = k.given l in record { blocks = g.blocks; read = g.walk; room = g.room; one = h }
+pub column_of : {body : List ℕ} {l : Local} {column : ℕ} → ReadsToEnd body l → column < l.columns.count → HasColumn l.columns column
+column_of r h = record { all = r.all; one = h }
 
-      pub body_value_lem : (v : Value) → paper_value v ≡ moved shift (column_at count map body column)
-          → paper_asked (Ask.Value v) ≡ body_value body shift column
-      unfolding paper_asked pick
-      body_value_lem v p = rw (body_decides, lt-ltb column count h, column_is count map body column (k.given l).walk, p)
-
-module _ (s : List ℕ) {at end : ℕ} (f : Frame s at end) (pos column : ℕ) where
-  pub frame_refused : {r : ℕ} → 2 ^ 63 ≤ end → r ≡ 2 ^ 64 - 1 - end → paper_asked (Ask.Refused r) ≡ value_from s pos column
-  unfolding paper_asked value_from and_then
-  frame_refused l d = rw (← f.refused l, d)
-
-  module _ (l : end < 2 ^ 63) where
-    module _ (h : pos + length s < 2 ^ 63) where
-      pub body_place : Fits w64 (pos + at)
-      body_place = let (a, b) = f.inside l in record { fits = omega arith }
-
-      pub body_room : pos + at + length (take (end - at) (drop at s)) < 2 ^ 63
-      body_room =
-          let (a, b) = f.inside l in
-          let e : end - at ≤ length s - at = omega arith in
-          simp (length-take, length-drop) (omega arith)
-
-    pub frame_value : {r : Answer Block} → r ≡ body_value (take (end - at) (drop at s)) (pos + at) column → r ≡ value_from s pos column
-    unfolding value_from body_value and_then
-    frame_value p = rw (← f.given l) p
-
+-- ---- at a place
 module _ (buf : List ℕ) (pos column : ℕ) where
-  pub entry_missing : length buf ≤ pos → paper_asked (Ask.Refused 1) ≡ value_at buf pos column
-  unfolding paper_asked value_at value_from framed and_then read_u64
-  entry_missing l = rw (← at_short buf pos (found_past buf pos l) refl)
+  pub value_past : length buf ≤ pos → value_at buf pos column ≡ refuses 1
+  unfolding value_at value_from framed and_then read_from taken
+  value_past l = rw (drop_of_length-le buf l)
 
-  pub entry_room : pos < length buf → length buf * 1 < 2 ^ 63 → pos + length (take (length buf - pos) (drop pos buf)) < 2 ^ 63
-  entry_room h b = rw (rest_all buf pos, length-drop pos buf) (omega arith)
-
-  pub entry_value : {r : Answer Block} → r ≡ value_from (take (length buf - pos) (drop pos buf)) pos column → r ≡ value_at buf pos column
+  pub value_there : value_at buf pos column ≡ value_from (take (length buf - pos) (drop pos buf)) pos column
   unfolding value_at
-  entry_value p = rw (rest_all buf pos) at p
+  value_there = ap (λ (s : List ℕ). value_from s pos column) (sym (take_rest buf pos))
 
 pub ruleset values = (
-  paper,
-  plain_pattern,
-  nan_pattern,
-  block_here,
-  next_fits,
+  tag_ok,
+  integer_ok,
   integer_value,
-  real_start,
   real_inside,
   real_value,
-  text_start,
+  text_ok,
   text_place,
   text_value,
   bool_here,
   bool_value,
-  vector_start,
+  vector_ok,
   vector_place,
   vector_value,
   null_value,
+  walk_ok,
   block_there,
   block_value,
-  local_number,
-  body_refused,
-  body_past,
   column_of,
-  body_value_lem,
-  frame_number,
-  frame_refused,
-  frame_starts,
-  frame_ends,
-  body_place,
-  body_room,
-  frame_value,
-  entry_missing,
-  entry_room,
-  entry_value,
+  value_above,
+  value_given,
+  value_past,
+  value_there,
 )

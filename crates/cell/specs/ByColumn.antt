@@ -1,8 +1,10 @@
 -- What the steps of the value by column say to each other. No public promise names these.
-use Rattle.std.specs.Prelude.{◌≡◌, ℕ, ◌+◌, ◌<◌, ◌≤◌, List, [], length, nat_lt}
-use Rattle.paper.specs.Answer.{Answer, gives, refuses, and_then, pick}
+use Rattle.std.specs.Prelude.{◌≡◌, ℕ, ◌+◌, ◌<◌, List, [], length}
+use Rattle.paper.specs.Answer.{Answer, gives, refuses}
 use Rattle.cell.specs.Block.{Block, null, block, columns, bitmap_bytes}
-use Rattle.cell.specs.Local.{local_body, moved, nth}
+use Rattle.cell.specs.Local.{nth}
+use Rattle.cell.specs.LocalRead.{AllRead}
+use Rattle.cell.specs.declared.inner.columns.Columns.{Columns}
 
 -- what was read, without the place behind it; or something else where it was refused
 unfoldable pub read_or : {A : Type 0} → A → Answer (A × ℕ) → A
@@ -13,24 +15,18 @@ read_or other (refuses k) = other
 unfoldable pub block_at : List ℕ → ℕ → Block
 block_at body at = read_or null (block body at)
 
--- one of the columns that follow the bitmap at map
-unfoldable pub column_at : ℕ → ℕ → List ℕ → ℕ → Block
-column_at count map body column = nth (read_or [] (columns count 0 map body (map + bitmap_bytes count))) column
-
--- the value of a column of the body, which stands at place shift of the caller's buffer
-unfoldable pub body_value : List ℕ → ℕ → ℕ → Answer Block
-body_value body shift column =
-    and_then (local_body body) (λ (rowid, bs). pick (nat_lt column (length bs)) (gives (moved shift (nth bs column))) (refuses 12))
+-- one of the columns
+unfoldable pub column_at : Columns → ℕ → Block
+column_at c column = nth (read_or [] (columns c.count 0 c.map c.body.now (c.map + bitmap_bytes c.count))) column
 
 -- a value block stands at the place
 pub record HasBlock (body : List ℕ) (at : ℕ) : Type 0 where
+  pub here : at < length body
   pub value : Block
   pub end : ℕ
   pub read : gives (value, end) ≡ block body at
 
--- a body whose columns were all read has this one
-pub record HasColumn (body : List ℕ) (count map column : ℕ) : Type 0 where
-  pub blocks : List Block
-  pub read : gives (blocks, length body) ≡ columns count 0 map body (map + bitmap_bytes count)
-  pub room : map + bitmap_bytes count ≤ length body
-  pub one : column < count
+-- columns that were all read have this one
+pub record HasColumn (c : Columns) (column : ℕ) : Type 0 where
+  pub all : AllRead c
+  pub one : column < c.count

@@ -1,12 +1,11 @@
 -- Document 01, "Entries": what overflow references and interior entries share. After their kind byte stands the rowid, and
 -- they end in a page number of four bytes.
-use Rattle.std.specs.Prelude.{◌≡◌, ℕ, ◌+◌, ◌-◌, ◌^◌, ◌<◌, ◌≤◌, List, ◌∷◌, ◌++◌, length, take, drop, ℤ, ◌==◌, nat_lt, slice_index}
+use Rattle.std.specs.Prelude.{ℕ, ◌+◌, ◌-◌, List, ◌∷◌, ◌++◌, length, take, drop, ℤ, ◌==◌, nat_lt, slice_index}
 use Rattle.paper.specs.Answer.{Answer, gives, refuses, and_then, pick, over}
-use Rattle.paper.specs.Coded.{Coded}
 use Rattle.field.specs.Field.{le}
 use Rattle.varint.specs.Leb.{leb_bytes}
 use Rattle.varint.specs.Number.{read_i64}
-use Rattle.varint.specs.Zigzag.{zigzag, unzigzag}
+use Rattle.varint.specs.Zigzag.{zigzag}
 
 -- an empty body or another kind is 5; the rowid's varint (1, 2); then the place behind it
 unfoldable pub keyed_at : ℕ → List ℕ → Answer (ℤ × ℕ)
@@ -32,15 +31,3 @@ key_of size kind rowid = size ∷ kind ∷ leb_bytes rowid
 -- bytes over the output from a place on
 abbrev pub over_at : List ℕ → ℕ → List ℕ → List ℕ
 over_at out at new = take at out ++ over (drop at out) new
-
--- the rowid as ZigZag has it, and the word of the place behind it
-pub record Keyed (kind : ℕ) (body : List ℕ) (rowid at : ℕ) : Type 0 where
-  pub refused : 2 ^ 63 ≤ at → refuses (2 ^ 64 - 1 - at) ≡ keyed_at kind body
-  pub top : 2 ^ 63 ≤ at → 2 ^ 64 - 256 ≤ at
-  pub given : at < 2 ^ 63 → gives (unzigzag rowid, at) ≡ keyed_at kind body
-  pub inside : at < 2 ^ 63 → at ≤ length body
-
--- the word of a page number, which has 32 bits
-pub record PageWord (body : List ℕ) (at page : ℕ) : Type 0 where
-  pub coded : Coded (page_at body at) page
-  pub small : page < 2 ^ 63 → page < 2 ^ 32

@@ -1,19 +1,25 @@
 -- A value list, column by column, where it is good: what the steps of the writer say to each other. No public promise names these.
-use Rattle.std.specs.Prelude.{◌≡◌, ℕ, zero, suc, ◌+◌, ◌-◌, ◌*◌, ◌/◌, ◌%◌, ◌^◌, ◌<◌, ◌≤◌, List, [], ◌∷◌, ◌++◌, length, take, drop, ◌==◌, ◌≢◌, nat_lt}
+use Rattle.std.specs.Prelude.{◌≡◌, ℕ, zero, suc, ◌+◌, ◌-◌, ◌*◌, ◌/◌, ◌%◌, ◌^◌, ◌<◌, ◌≤◌, List, [], ◌∷◌, ◌++◌, length, take, drop, ◌==◌, nat_lt, Result, Ok, Err}
 use Rattle.std.specs.Int.{w64}
 use Rattle.std.proofs.Common.{to_z}
 use Rattle.paper.specs.Answer.{Answer, gives, refuses, pick}
-use Rattle.field.specs.Field.{bytes}
+use Rattle.paper.specs.Refusal.{number}
+use Rattle.paper.specs.declared.Refusal.{Refusal}
+use Rattle.field.specs.Field.{le, bytes}
 use Rattle.varint.specs.Leb.{leb_bytes}
 use Rattle.varint.specs.Zigzag.{zigzag}
 use Rattle.cell.specs.Content.{Content, none, whole, float, truth, letters, floats}
-use Rattle.cell.specs.ValueList.{item, words_of, value_list}
+use Rattle.cell.specs.ValueList.{item, items, words_of}
 use Rattle.cell.specs.Block.{bitmap_bytes}
 use Rattle.cell.specs.Written.{bitmap, blocks_bytes}
 
--- the words that are lent as bytes
+-- the words that are lent as bytes, and the same in arrays of eight bytes
 unfoldable pub word_list : List ℕ → List ℕ
 word_list words = words_of (length words / 8) words
+
+unfoldable pub numbers : List (List ℕ) → List ℕ
+numbers [] = []
+numbers (word ∷ words) = le 8 0 word ∷ numbers words
 
 -- ---- one column
 
@@ -68,14 +74,18 @@ unfoldable pub kind_map : ℕ → List ℕ → List ℕ
 kind_map zero kinds = []
 kind_map (suc n) kinds = kind_bits (take 8 kinds) ∷ kind_map n (drop 8 kinds)
 
--- ---- a refusal's number beside an answer: 0 where there is none
-unfoldable pub judged : {A : Type 0} → ℕ → A → Answer A
-judged refusal a = pick (refusal == 0) (gives a) (refuses refusal)
+-- an accepted column holds what `held` says; the data bytes that it takes, and the length of its value block
+pub record Accepted (kind word : ℕ) (rest : List ℕ) (taken len : ℕ) : Type 0 where
+  pub same : gives (held kind word rest, drop (used kind word) rest) ≡ item kind word rest
+  pub taken_is : taken ≡ used kind word
+  pub fits : used kind word ≤ length rest
+  pub len_is : len ≡ block_len kind word
+  pub most : len ≤ 11 + used kind word
 
--- one column's refusal: 0 where it holds what `held` says
-pub record Judged (kind word : ℕ) (rest : List ℕ) (refusal : ℕ) : Type 0 where
-  pub same : judged refusal (held kind word rest, drop (used kind word) rest) ≡ item kind word rest
-  pub fits : refusal ≡ 0 → used kind word ≤ length rest
+-- both of a column, or what is wrong with it
+abbrev pub Judged : ℕ → ℕ → List ℕ → Result (ℕ × ℕ) Refusal → Type 0
+Judged kind word rest (Ok p) = Accepted kind word rest p.0 p.1
+Judged kind word rest (Err refusal) = refuses (number refusal) ≡ item kind word rest
 
 -- ---- the quick reading: what its steps say of a column
 
@@ -83,10 +93,6 @@ pub record Judged (kind word : ℕ) (rest : List ℕ) (refusal : ℕ) : Type 0 w
 pub record Common (kind : ℕ) : Type 0 where
   pub byte : kind < 256
   pub near : (kind + 1) % 256 < 5
-
--- 0 only for such a kind
-pub record Strange (kind r : ℕ) : Type 0 where
-  pub none : r ≡ 0 → Common kind
 
 -- the largest word of such a kind, where so many bytes of data are left
 unfoldable pub largest : ℕ → ℕ → ℕ
@@ -97,39 +103,20 @@ unfoldable pub blocks_len : Answer (List Content) → Answer ℕ
 blocks_len (gives cs) = gives (length (blocks_bytes cs))
 blocks_len (refuses k) = refuses k
 
--- the quick reading's answer: a length, or 2^63, where it does not know
-pub record Quick (a : Answer ℕ) (r : ℕ) : Type 0 where
-  pub same : r < 2 ^ 63 → judged 0 r ≡ a
-  pub most : r < 2 ^ 63 → r ≤ 11 * 65536 + 16777216
-
 -- ---- the body, by a rowid's ZigZag number: kind byte, rowid and count; then the bitmap and the value blocks
 unfoldable pub head_of : ℕ → ℕ → List ℕ
 head_of id count = 1 ∷ (leb_bytes id ++ leb_bytes count)
 
-unfoldable pub columns_of : List ℕ → List ℕ → List ℕ → List ℕ
-columns_of kinds words rest = kind_map (bitmap_bytes (length kinds)) kinds ++ blocks_bytes (held_all kinds (word_list words) rest)
-
 unfoldable pub body_of : ℕ → List ℕ → List ℕ → List ℕ → List ℕ
-body_of id kinds words rest = head_of id (length kinds) ++ columns_of kinds words rest
-
--- its length
-abbrev pub body_size : ℕ → List ℕ → List ℕ → List ℕ → ℕ
-body_size id kinds words rest =
-    1 + (length (leb_bytes id) + length (leb_bytes (length kinds)))
-    + (bitmap_bytes (length kinds) + length (blocks_bytes (held_all kinds (word_list words) rest)))
+body_of id kinds words rest =
+    head_of id (length kinds) ++ (kind_map (bitmap_bytes (length kinds)) kinds ++ blocks_bytes (held_all kinds words rest))
 
 -- ---- a good list: what it holds, and the length of the body
 pub record Good (id : ℕ) (kinds words rest : List ℕ) (size : ℕ) : Type 0 where
-  pub listed : value_list kinds words rest ≡ gives (held_all kinds (word_list words) rest)
-  pub count : length (held_all kinds (word_list words) rest) ≡ length kinds
-  pub nulls : bitmap (bitmap_bytes (length kinds)) (held_all kinds (word_list words) rest) ≡ kind_map (bitmap_bytes (length kinds)) kinds
-  pub even : length kinds ≡ length words / 8
-  pub columns : length kinds ≤ 65536
-  pub fits : used_all kinds (word_list words) ≤ length rest
-  pub sum : size ≡ body_size id kinds words rest
+  pub listed : items kinds words rest ≡ gives (held_all kinds words rest)
+  pub count : length (held_all kinds words rest) ≡ length kinds
+  pub nulls : bitmap (bitmap_bytes (length kinds)) (held_all kinds words rest) ≡ kind_map (bitmap_bytes (length kinds)) kinds
+  pub fits : used_all kinds words ≤ length rest
+  pub sum : size
+      ≡ 1 + (length (leb_bytes id) + length (leb_bytes (length kinds))) + (bitmap_bytes (length kinds) + length (blocks_bytes (held_all kinds words rest)))
   pub small : size < 2 ^ 32
-
--- a list's refusal: 0 where it is good
-pub record Measures (id : ℕ) (kinds words rest : List ℕ) (refusal size : ℕ) : Type 0 where
-  pub refused : (refusal ≢ 0) → value_list kinds words rest ≡ refuses refusal
-  pub good : refusal ≡ 0 → Good id kinds words rest size

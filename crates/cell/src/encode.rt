@@ -1,19 +1,22 @@
 // Writing a local entry from its value list: the port of `Cell::encode`.
-ghost use Rattle.std.specs.Prelude.{◌≡◌, ◌+◌, ◌-◌, ◌*◌, ◌/◌, ◌^◌, ◌<◌, ◌≤◌, [], ◌∷◌, ◌++◌, length, take, drop, ◌==◌, nat_lt, slice_index};
-ghost use Rattle.paper.specs.Answer.{over, pick, put, size_of};
+ghost use Rattle.std.specs.Prelude.{◌≡◌, ◌+◌, ◌^◌, ◌<◌, ◌≤◌, ◌++◌, length, ◌==◌, nat_lt, true, IfSome, MatchResult};
+ghost use Rattle.paper.specs.Answer.{gives, refuses, answer_of, over, pick, put, size_of};
+ghost use Rattle.paper.specs.Refusal.{number};
 ghost use Rattle.varint.specs.Leb.{leb_bytes};
-ghost use Rattle.varint.specs.Paper.{paper_wrote};
-ghost use Rattle.cell.specs.Block.{bitmap_bytes};
-ghost use Rattle.cell.specs.Written.{block_bytes, blocks_bytes, encoded, write_cell};
-ghost use Rattle.cell.specs.ValueList.{items};
-ghost use Rattle.utf8.specs.WellFormed.{check_text};
 ghost use Rattle.utf8.specs.Ascii.{Plain};
-ghost use Rattle.cell.specs.Listing.{word_list, used, held, payload, block_len, used_all, held_all, kind_bit, kind_bits, kind_map, judged, Judged, Common, Strange, largest, Quick, blocks_len, head_of, columns_of, body_of, body_size, Good, Measures};
+ghost use Rattle.cell.specs.Block.{bitmap_bytes};
+ghost use Rattle.cell.specs.Written.{block_bytes, encoded, write_cell};
+ghost use Rattle.cell.specs.ValueList.{value_list};
+ghost use Rattle.cell.specs.Tag.{tag_byte};
+ghost use Rattle.cell.specs.ColumnKind.{kind_byte, Kinds};
+ghost use Rattle.cell.specs.Listing.{used, held, payload, block_len, kind_bit, kind_bits, kind_map, Judged, Common, largest, blocks_len, head_of};
 
-use crate::inner::{NO_PLACE, bitmap_bytes};
-use crate::{KIND_LOCAL, tag};
+use crate::Kind;
+use crate::inner::columns::bitmap_bytes;
+use crate::tag::Tag;
+use paper::Refusal;
 
-// The kinds of a value list that are no tags: a `Value::Null` inside a value, and a null.
+// The kinds of a value list that are no tags: a `Value::Null` inside a value, and a null. As bytes, since the quick reading compares bytes.
 const INNER_NULL: u8 = 5;
 
 const NULL: u8 = 255;
@@ -23,179 +26,129 @@ const MAX_COLUMNS: usize = 65536;
 
 const MAX_DATA: usize = 16777216;
 
-// Word i of the words that are lent as bytes.
-fn word_at(words: &[u8], i: usize) -> u64
-    requires { i < length words.now / 8 }
-    ensures { result ≡ slice_index (word_list words.now) i }
-{
-    field::inner::u64_at(&words[8 * i..])
+// What a column's kind says.
+#[derive(Clone, Copy)]
+enum ColumnKind {
+    Value(Tag),
+    InnerNull,
+    Null,
 }
 
-// The data bytes that a column takes.
-fn data_used(kind: u8, word: u64) -> usize
-    requires { used kind word < 2 ^ 64 }
-    ensures { result ≡ used kind word }
-{
-    if kind == tag::TEXT {
-        return word as usize;
+impl TryFrom<u8> for ColumnKind {
+    type Error = Refusal;
+
+    ghost try_from_gives = { Kinds };
+
+    fn try_from(byte: u8) -> Result<ColumnKind, Refusal> {
+        if let Ok(tag) = Tag::try_from(byte) {
+            return Ok(ColumnKind::Value(tag));
+        }
+        match byte {
+            INNER_NULL => Ok(ColumnKind::InnerNull),
+            NULL => Ok(ColumnKind::Null),
+            _ => Err(Refusal::BadValueList),
+        }
     }
-    if kind == tag::VECTOR {
-        return 4 * word as usize;
-    }
-    0
 }
 
-// ---- the first reading: each column is judged and measured
+// The data bytes that a value takes.
+#[tactic(auto, unfolding(crate::specs::Listing::used, paper::specs::Answer::pick))]
+fn data_used(tag: Tag, word: u64) -> usize
+    requires { used (tag_byte tag) word < 2 ^ 64 }
+    ensures { result ≡ used (tag_byte tag) word }
+{
+    match tag {
+        Tag::Text => word as usize,
+        Tag::Vector => 4 * word as usize,
+        Tag::Integer | Tag::Real | Tag::Bool => 0,
+    }
+}
 
 // The bytes of a varint, with their bound.
+#[tactic(auto, using(crate::proofs::Judging::len_most))]
 fn varint_len(value: u64) -> usize
     ensures { (result ≡ length (leb_bytes value)) × (result ≤ 10) }
 {
     varint::inner::len_by_digits(value)
 }
 
-fn block_len(kind: u8, word: u64) -> usize
-    requires { used kind word ≤ 16777216 }
-    ensures { (result ≡ block_len kind word) × (result ≤ 11 + used kind word) }
-{
-    if tag::VECTOR < kind {
-        return 0;
+// ---- the first reading: each column is judged and measured
+
+impl ColumnKind {
+    // The data bytes that a column takes, of those that are left, and the length of its value block.
+    #[tactic(auto, unfolding(crate::specs::ValueList::item, crate::specs::Listing::held, crate::specs::Listing::used, crate::specs::Listing::block_len, paper::specs::Answer::pick, paper::specs::Answer::and_then))]
+    fn measure(self, word: u64, rest: &[u8]) -> Result<(usize, usize), Refusal>
+        ensures { Judged (kind_byte self) word rest.now result }
+    {
+        match self {
+            ColumnKind::Value(Tag::Integer) => Ok((
+                0,
+                1 + varint_len(varint::inner::zigzag_bits(word)),
+            )),
+            ColumnKind::Value(Tag::Real) => Ok((0, 9)),
+            ColumnKind::Value(Tag::Text) => {
+                let size = word as usize;
+                if rest.len() < size {
+                    return Err(Refusal::BadValueList);
+                }
+                utf8::check(&rest[..size])?;
+                Ok((size, 1 + varint_len(word) + size))
+            }
+            ColumnKind::Value(Tag::Bool) => {
+                if 1 < word {
+                    return Err(Refusal::BadValueList);
+                }
+                Ok((0, 2))
+            }
+            ColumnKind::Value(Tag::Vector) => {
+                let dimension = word as usize;
+                if rest.len() / 4 < dimension {
+                    return Err(Refusal::BadValueList);
+                }
+                let size = 4 * dimension;
+                Ok((size, 1 + varint_len(word) + size))
+            }
+            ColumnKind::InnerNull => Err(Refusal::NullInValue),
+            ColumnKind::Null => {
+                if word != 0 {
+                    return Err(Refusal::BadValueList);
+                }
+                Ok((0, 0))
+            }
+        }
     }
-    if kind == tag::INTEGER {
-        return 1 + varint_len(varint::inner::zigzag_bits(word));
-    }
-    if kind == tag::REAL {
-        return 9;
-    }
-    if kind == tag::BOOL {
-        return 2;
-    }
-    1 + varint_len(word) + data_used(kind, word)
 }
 
-// 8, or 0 where the bytes are a text. ASCII is known at once, so it is asked first.
-fn text_refusal(s: &[u8]) -> u8
-    ensures { judged result tt ≡ check_text s.now }
-{
-    if utf8::inner::all_ascii(s) {
-        return 0;
-    }
-    match utf8::check(s) {
-        utf8::Checked::Text => 0,
-        utf8::Checked::Refused(_) => 8,
-    }
-}
-
-// A column's refusal, or 0. Its data starts at from.
-fn column_refusal(kind: u8, word: u64, data: &[u8], from: usize) -> u8
-    requires { from ≤ length «data».now }
-    ensures { Judged kind word (drop from «data».now) result }
-{
-    if kind == tag::INTEGER {
-        return 0;
-    }
-    if kind == tag::REAL {
-        return 0;
-    }
-    if kind == tag::TEXT {
-        if data.len() - from < word as usize {
-            return 15;
-        }
-        let to = from + word as usize;
-        return text_refusal(&data[from..to]);
-    }
-    if kind == tag::BOOL {
-        if 1 < word {
-            return 15;
-        }
-        return 0;
-    }
-    if kind == tag::VECTOR {
-        if (data.len() - from) / 4 < word as usize {
-            return 15;
-        }
-        return 0;
-    }
-    if kind == INNER_NULL {
-        return 27;
-    }
-    if kind == NULL {
-        if word == 0 {
-            return 0;
-        }
-        return 15;
-    }
-    15
-}
-
-// A refusal's number, 0 where there is none; and a length.
-#[derive(Clone, Copy)]
-struct Measured {
-    refusal: u8,
-    bytes: usize,
-}
-
-// The value blocks of all columns, column by column.
-fn plain_blocks(kinds: &[u8], words: &[u8], data: &[u8]) -> Measured
-    requires kinds_len { length kinds.now ≡ length words.now / 8 }
-    requires kinds_len_bound { length kinds.now ≤ 65536 }
-    requires data_len_bound { length «data».now ≤ 16777216 }
-    ensures bytes_value { judged result.refusal result.bytes ≡ blocks_len (items kinds.now (word_list words.now) «data».now) }
-    ensures bytes_bound { result.bytes ≤ 11 * 65536 + 16777216 }
-{
-    let mut i: usize = 0;
-    let mut from: usize = 0;
-    let mut bytes: usize = 0;
-    while i < kinds.len() {
-        let kind = kinds[i];
-        let word = word_at(words, i);
-        let refusal = column_refusal(kind, word, data, from);
-        if refusal != 0 {
-            return Measured { refusal, bytes: 0 };
-        }
-        bytes += block_len(kind, word);
-        from += data_used(kind, word);
-        i += 1;
-    }
-    if from < data.len() {
-        return Measured {
-            refusal: 15,
-            bytes: 0,
-        };
-    }
-    Measured { refusal: 0, bytes }
-}
-
-// ---- the first reading, quick: no jump hangs on a column's kind, so that nulls at random are not guessed wrong. Each test of a kind is
-// a function of its own, which is laid out as a choice between two numbers.
+// ---- the same, quick: no jump hangs on a column's kind, so that nulls at random are not guessed wrong. So a kind is a byte here, and each test
+// of one is a function of its own, which is laid out as a choice between two numbers. Without this reading twenty columns miss the bar of
+// docs/BENCH.md.
 
 // One value where the kind is this one, another elsewhere.
+#[tactic(auto, unfolding(paper::specs::Answer::pick))]
 fn for_kind(kind: u8, wanted: u8, value: u64, other: u64) -> u64
     ensures { result ≡ pick (kind == wanted) value other }
 {
     if kind == wanted { value } else { other }
 }
 
-// 0 for a null, and for the kinds before the vector.
-fn strange_kind(kind: u8) -> u64
-    ensures { Strange kind result }
+// A null, or a kind before the vector.
+fn is_common(kind: u8) -> bool
+    ensures { result ≡ true → Common kind }
 {
-    if std::num::wrapping_add_u8(kind, 1) < 5 {
-        0
-    } else {
-        1
-    }
+    kind.wrapping_add(1) < 5
 }
 
 // The largest word of a good column, where so many bytes of data are left.
+#[tactic(auto, unfolding(crate::specs::Listing::largest))]
 fn largest_word(kind: u8, left: usize) -> u64
     ensures { result ≡ largest kind left }
 {
-    let text = for_kind(kind, tag::TEXT, left as u64, 0xFFFF_FFFF_FFFF_FFFF);
-    for_kind(kind, NULL, 0, for_kind(kind, tag::BOOL, 1, text))
+    let text = for_kind(kind, Tag::Text as u8, left as u64, u64::MAX);
+    for_kind(kind, NULL, 0, for_kind(kind, Tag::Bool as u8, 1, text))
 }
 
 // The tag, and the first byte behind it.
+#[tactic(auto, unfolding(paper::specs::Answer::pick))]
 fn first_bytes(kind: u8) -> usize
     ensures { (result ≡ pick (nat_lt kind 4) 2 0) × (result ≤ 2) }
 {
@@ -206,175 +159,38 @@ fn first_bytes(kind: u8) -> usize
 const AS_LONG_AS_A_REAL: u64 = 0x2_0000_0000_0000;
 
 // As `block_len`, without the kinds that are strange. The first byte of a number is counted with the tag.
+#[tactic(auto, using(crate::proofs::QuickMeasuring::quickly))]
 fn quick_len(kind: u8, word: u64) -> usize
     requires { Common kind × (used kind word ≤ 16777216) }
-    ensures { (result ≡ block_len kind word) × (result ≤ 11 + used kind word) }
+    ensures { result ≡ block_len kind word }
 {
-    let text = for_kind(kind, tag::TEXT, word, 0);
-    let real = for_kind(kind, tag::REAL, AS_LONG_AS_A_REAL, text);
-    let number = for_kind(kind, tag::INTEGER, varint::inner::zigzag_bits(word), real);
+    let text = for_kind(kind, Tag::Text as u8, word, 0);
+    let real = for_kind(kind, Tag::Real as u8, AS_LONG_AS_A_REAL, text);
+    let number = for_kind(
+        kind,
+        Tag::Integer as u8,
+        varint::inner::zigzag_bits(word),
+        real,
+    );
     first_bytes(kind) + (varint_len(number) - 1) + text as usize
-}
-
-// The value blocks of all columns, or 2^63 where it is not known.
-fn quick_blocks(kinds: &[u8], words: &[u8], data: &[u8]) -> usize
-    requires kinds_len { length kinds.now ≡ length words.now / 8 }
-    requires kinds_len_bound { length kinds.now ≤ 65536 }
-    requires data_len_bound { length «data».now ≤ 16777216 }
-    requires plain { Plain «data».now 0 (length «data».now) }
-    ensures { Quick (blocks_len (items kinds.now (word_list words.now) «data».now)) result }
-{
-    let mut i: usize = 0;
-    let mut from: usize = 0;
-    let mut bytes: usize = 0;
-    while i < kinds.len() {
-        let kind = kinds[i];
-        let word = word_at(words, i);
-        if strange_kind(kind) != 0 {
-            return NO_PLACE;
-        }
-        if largest_word(kind, data.len() - from) < word {
-            return NO_PLACE;
-        }
-        bytes += quick_len(kind, word);
-        from += for_kind(kind, tag::TEXT, word, 0) as usize;
-        i += 1;
-    }
-    if from < data.len() {
-        return NO_PLACE;
-    }
-    bytes
-}
-
-// The value blocks of all columns. Where the quick reading does not know, the plain one tells.
-fn measure_blocks(kinds: &[u8], words: &[u8], data: &[u8]) -> Measured
-    requires kinds_len { length kinds.now ≡ length words.now / 8 }
-    requires kinds_len_bound { length kinds.now ≤ 65536 }
-    requires data_len_bound { length «data».now ≤ 16777216 }
-    ensures bytes_value { judged result.refusal result.bytes ≡ blocks_len (items kinds.now (word_list words.now) «data».now) }
-    ensures bytes_bound { result.bytes ≤ 11 * 65536 + 16777216 }
-{
-    if utf8::inner::all_ascii(data) {
-        let bytes = quick_blocks(kinds, words, data);
-        if bytes < NO_PLACE {
-            return Measured { refusal: 0, bytes };
-        }
-    }
-    plain_blocks(kinds, words, data)
-}
-
-// The whole list, and the length of the body that it makes with the rowid's ZigZag number.
-fn measure(id: u64, kinds: &[u8], words: &[u8], data: &[u8]) -> Measured
-    ensures { Measures id kinds.now words.now «data».now result.refusal result.bytes }
-{
-    if 0 < words.len() % 8 {
-        return Measured {
-            refusal: 25,
-            bytes: 0,
-        };
-    }
-    if MAX_COLUMNS < kinds.len() {
-        return Measured {
-            refusal: 25,
-            bytes: 0,
-        };
-    }
-    if MAX_COLUMNS < words.len() / 8 {
-        return Measured {
-            refusal: 25,
-            bytes: 0,
-        };
-    }
-    if MAX_DATA < data.len() {
-        return Measured {
-            refusal: 25,
-            bytes: 0,
-        };
-    }
-    if kinds.len() != words.len() / 8 {
-        return Measured {
-            refusal: 15,
-            bytes: 0,
-        };
-    }
-    let blocks = measure_blocks(kinds, words, data);
-    if blocks.refusal != 0 {
-        return Measured {
-            refusal: blocks.refusal,
-            bytes: 0,
-        };
-    }
-    let head = 1 + (varint_len(id) + varint_len(kinds.len() as u64));
-    let columns = bitmap_bytes(kinds.len()) + blocks.bytes;
-    Measured {
-        refusal: 0,
-        bytes: head + columns,
-    }
 }
 
 // ---- writers: each writes its bytes from the start of an output that has room, and answers how many
 
-fn put_byte(out: &mut [u8], byte: u8)
-    requires { 0 < length out.old }
-    ensures { (out.new ≡ over out.old (byte ∷ [])) × (0 < length out.new) }
-{
-    out[0] = byte;
-}
-
-// The first eight bytes and the last eight, which may meet.
-fn copy_ends(out: &mut [u8], src: &[u8])
-    requires in_bounds { (8 ≤ length src.now) × (length src.now ≤ 16) }
-    requires src_in_bounds { length src.now ≤ length out.old }
-    ensures { out.new ≡ over out.old src.now }
-{
-    let last = src.len() - 8;
-    field::inner::put_u64(out, field::inner::u64_at(src));
-    field::inner::put_u64(&mut out[last..], field::inner::u64_at(&src[last..]));
-}
-
-fn copy_all(out: &mut [u8], src: &[u8])
-    requires { length src.now ≤ length out.old }
-    ensures { out.new ≡ over out.old src.now }
-{
-    let mut i: usize = 0;
-    while i < src.len() {
-        out[i] = src[i];
-        i += 1;
-    }
-}
-
-// Names and codes are short.
-fn copy(out: &mut [u8], src: &[u8])
-    requires { length src.now ≤ length out.old }
-    ensures { out.new ≡ over out.old src.now }
-{
-    if 8 <= src.len() {
-        if src.len() <= 16 {
-            copy_ends(out, src);
-            return;
-        }
-    }
-    copy_all(out, src)
-}
-
 // A number, and bytes behind it.
+#[tactic(auto, unfolding(paper::specs::Answer::over))]
 fn put_counted(out: &mut [u8], count: u64, src: &[u8]) -> usize
     requires { length (leb_bytes count) + length src.now ≤ length out.old }
     ensures value { result ≡ length (leb_bytes count) + length src.now }
     ensures out_after { out.new ≡ over out.old (leb_bytes count ++ src.now) }
 {
-    let n = varint::inner::put_u64(out, count);
-    copy(&mut out[n..], src);
-    n + src.len()
+    let start = varint::inner::put_u64(out, count);
+    let end = start + src.len();
+    out[start..end].copy_from_slice(src);
+    end
 }
 
-fn bool_byte(word: u64) -> u8
-    ensures { result ≡ pick (word == 1) 1 0 }
-{
-    if word == 1 { 1 } else { 0 }
-}
-
-// An integer. Most are short, and their lengths cannot be guessed.
+// An integer. Most are short, and their lengths cannot be guessed: by the loop alone twenty columns miss the bar of docs/BENCH.md.
 fn put_integer(out: &mut [u8], number: u64) -> usize
     requires { length (leb_bytes number) ≤ length out.old }
     ensures value { result ≡ length (leb_bytes number) }
@@ -386,138 +202,69 @@ fn put_integer(out: &mut [u8], number: u64) -> usize
     varint::inner::put_u64(out, number)
 }
 
-// A column's value block after its tag.
-fn put_payload(out: &mut [u8], kind: u8, word: u64, data: &[u8], from: usize) -> usize
-    requires word_in_bounds { from + used kind word ≤ length «data».now }
-    requires data_in_bounds { length (payload kind word (drop from «data».now)) ≤ length out.old }
-    ensures value { result ≡ length (payload kind word (drop from «data».now)) }
-    ensures out_after { out.new ≡ over out.old (payload kind word (drop from «data».now)) }
+// A value block after its tag. Its data starts where what is left does.
+#[tactic(auto, using(field::proofs::Storing::length_bytes), unfolding(crate::specs::Listing::payload, paper::specs::Answer::over, crate::specs::Listing::used, paper::specs::Answer::pick))]
+fn put_payload(out: &mut [u8], tag: Tag, word: u64, rest: &[u8]) -> usize
+    requires data_there { used (tag_byte tag) word ≤ length rest.now }
+    requires room { length (payload (tag_byte tag) word rest.now) ≤ length out.old }
+    ensures value { result ≡ length (payload (tag_byte tag) word rest.now) }
+    ensures out_after { out.new ≡ over out.old (payload (tag_byte tag) word rest.now) }
 {
-    if kind == tag::INTEGER {
-        return put_integer(out, varint::inner::zigzag_bits(word));
-    }
-    if kind == tag::REAL {
-        field::inner::put_u64(out, word);
-        return 8;
-    }
-    if kind == tag::BOOL {
-        out[0] = bool_byte(word);
-        return 1;
-    }
-    let to = from + data_used(kind, word);
-    put_counted(out, word, &data[from..to])
-}
-
-// A column's value block, tag first. A null has none, and does not come here.
-fn put_block(out: &mut [u8], kind: u8, word: u64, data: &[u8], from: usize) -> usize
-    requires kind_bound { kind ≤ 4 }
-    requires word_in_bounds { from + used kind word ≤ length «data».now }
-    requires data_in_bounds { length (block_bytes (held kind word (drop from «data».now))) ≤ length out.old }
-    ensures value { result ≡ length (block_bytes (held kind word (drop from «data».now))) }
-    ensures out_after { out.new ≡ over out.old (block_bytes (held kind word (drop from «data».now))) }
-{
-    put_byte(out, kind);
-    1 + put_payload(&mut out[1..], kind, word, data, from)
-}
-
-// The value blocks of all columns.
-fn put_blocks(out: &mut [u8], kinds: &[u8], words: &[u8], data: &[u8])
-    requires kinds_len { length kinds.now ≡ length words.now / 8 }
-    requires words_in_bounds { used_all kinds.now (word_list words.now) ≤ length «data».now }
-    requires data_in_bounds { length (blocks_bytes (held_all kinds.now (word_list words.now) «data».now)) ≤ length out.old }
-    ensures { out.new ≡ over out.old (blocks_bytes (held_all kinds.now (word_list words.now) «data».now)) }
-{
-    let mut i: usize = 0;
-    let mut from: usize = 0;
-    let mut at: usize = 0;
-    while i < kinds.len() {
-        let kind = kinds[i];
-        let word = word_at(words, i);
-        if tag::VECTOR < kind {
-            i += 1;
-            continue;
+    match tag {
+        Tag::Integer => put_integer(out, varint::inner::zigzag_bits(word)),
+        Tag::Real => {
+            field::inner::put_u64(out, word);
+            8
         }
-        at += put_block(&mut out[at..], kind, word, data, from);
-        from += data_used(kind, word);
-        i += 1;
+        Tag::Bool => {
+            out[0] = u8::from(word == 1);
+            1
+        }
+        Tag::Text => put_counted(out, word, &rest[..word as usize]),
+        Tag::Vector => put_counted(out, word, &rest[..4 * word as usize]),
     }
+}
+
+// A value block, tag first. A null has none.
+#[tactic(auto, using(crate::proofs::BlockWriting::tag_block, std::proofs::lemmas::Grind::common_steps), unfolding(paper::specs::Answer::over))]
+fn put_block(out: &mut [u8], tag: Tag, word: u64, rest: &[u8]) -> usize
+    requires data_there { used (tag_byte tag) word ≤ length rest.now }
+    requires room { length (block_bytes (held (tag_byte tag) word rest.now)) ≤ length out.old }
+    ensures value { result ≡ length (block_bytes (held (tag_byte tag) word rest.now)) }
+    ensures out_after { out.new ≡ over out.old (block_bytes (held (tag_byte tag) word rest.now)) }
+{
+    out[0] = tag as u8;
+    1 + put_payload(&mut out[1..], tag, word, rest)
 }
 
 // ---- the null bitmap
-
-fn null_bit(kind: u8) -> u8
-    ensures { result ≡ kind_bit kind }
-{
-    if kind == NULL { 1 } else { 0 }
-}
 
 // The byte of at most eight columns, the first lowest.
 fn null_bits(kinds: &[u8]) -> u8
     requires { length kinds.now ≤ 8 }
     ensures { result ≡ kind_bits kinds.now }
 {
-    let mut byte: u8 = 0;
-    let mut c = kinds.len();
-    while 0 < c {
-        c -= 1;
-        byte = 2 * byte + null_bit(kinds[c]);
-    }
-    byte
+    kinds.iter().rev().fold(
+        0,
+        |byte: u8, kind: &u8| (byte << 1) + u8::from(*kind == NULL),
+    )
 }
 
-// Byte b of the bitmap, where eight columns stand in it.
-fn whole_byte(kinds: &[u8], b: usize) -> u8
-    requires { 8 * b + 8 ≤ length kinds.now }
-    ensures { result ≡ kind_bits (take 8 (drop (8 * b) kinds.now)) }
-{
-    let from = 8 * b;
-    let to = from + 8;
-    null_bits(&kinds[from..to])
-}
-
-// The last byte, where fewer stand in it: of the last eight columns those that stand in the byte before are shifted out.
-fn last_byte(kinds: &[u8], b: usize) -> u8
-    requires { (8 * b < length kinds.now) × (length kinds.now - 8 * b < 8) }
-    ensures { result ≡ kind_bits (take 8 (drop (8 * b) kinds.now)) }
-{
-    let from = 8 * b;
-    if kinds.len() < 8 {
-        return null_bits(&kinds[from..]);
-    }
-    let last = kinds.len() - 8;
-    null_bits(&kinds[last..]) >> (from - last)
-}
-
+#[tactic(auto, using(crate::proofs::Nulls::nulls), unfolding(crate::specs::Block::bitmap_bytes))]
 fn put_bitmap(out: &mut [u8], kinds: &[u8]) -> usize
-    requires kinds_len_bound { length kinds.now ≤ 65536 }
-    requires kinds_in_bounds { bitmap_bytes (length kinds.now) ≤ length out.old }
+    requires { bitmap_bytes (length kinds.now) ≤ length out.old }
     ensures value { result ≡ bitmap_bytes (length kinds.now) }
     ensures out_after { out.new ≡ over out.old (kind_map (bitmap_bytes (length kinds.now)) kinds.now) }
 {
-    let size = bitmap_bytes(kinds.len());
-    let whole = kinds.len() / 8;
-    let mut b: usize = 0;
-    while b < whole {
-        out[b] = whole_byte(kinds, b);
-        b += 1;
+    let (whole, last) = kinds.as_chunks::<8>();
+    for (b, columns) in whole.iter().enumerate() {
+        out[b] = null_bits(columns);
     }
-    if size <= whole {
-        return size;
+    if last.is_empty() {
+        return whole.len();
     }
-    out[whole] = last_byte(kinds, whole);
-    size
-}
-
-// ---- the entry
-
-// Two varints.
-fn put_pair(out: &mut [u8], first: u64, second: u64) -> usize
-    requires { length (leb_bytes first) + length (leb_bytes second) ≤ length out.old }
-    ensures value { result ≡ length (leb_bytes first) + length (leb_bytes second) }
-    ensures out_after { out.new ≡ over out.old (leb_bytes first ++ leb_bytes second) }
-{
-    let n = varint::inner::put_u64(out, first);
-    n + varint::inner::put_u64(&mut out[n..], second)
+    out[whole.len()] = null_bits(last);
+    whole.len() + 1
 }
 
 // The kind byte, the rowid's ZigZag number, and the column count.
@@ -526,68 +273,177 @@ fn put_head(out: &mut [u8], id: u64, columns: u64) -> usize
     ensures value { result ≡ 1 + (length (leb_bytes id) + length (leb_bytes columns)) }
     ensures out_after { out.new ≡ over out.old (head_of id columns) }
 {
-    put_byte(out, KIND_LOCAL);
-    1 + put_pair(&mut out[1..], id, columns)
+    out[0] = Kind::Local as u8;
+    let n = 1 + varint::inner::put_u64(&mut out[1..], id);
+    n + varint::inner::put_u64(&mut out[n..], columns)
 }
 
-// The bitmap and the value blocks.
-fn put_columns(out: &mut [u8], kinds: &[u8], words: &[u8], data: &[u8])
-    requires kinds_len { (length kinds.now ≡ length words.now / 8) × (length kinds.now ≤ 65536) }
-    requires words_in_bounds { used_all kinds.now (word_list words.now) ≤ length «data».now }
-    requires data_in_bounds { bitmap_bytes (length kinds.now) + length (blocks_bytes (held_all kinds.now (word_list words.now) «data».now)) ≤ length out.old }
-    ensures { out.new ≡ over out.old (columns_of kinds.now words.now «data».now) }
-{
-    let n = put_bitmap(out, kinds);
-    put_blocks(&mut out[n..], kinds, words, data);
+// ---- the list as a whole
+
+// A value list of the size that is allowed, with a word for each kind.
+#[derive(Clone, Copy)]
+struct ValueList<'a> {
+    kinds: &'a [u8],
+    words: &'a [[u8; 8]],
+    data: &'a [u8],
+    ghost one_word_each: { length words.now ≡ length kinds.now },
+    ghost few_columns: { length kinds.now ≤ 65536 },
+    ghost little_data: { length «data».now ≤ 16777216 },
 }
 
-// The body of a good list.
-fn put_body(out: &mut [u8], id: u64, kinds: &[u8], words: &[u8], data: &[u8])
-    requires good { Good id kinds.now words.now «data».now (body_size id kinds.now words.now «data».now) }
-    requires data_in_bounds { body_size id kinds.now words.now «data».now ≤ length out.old }
-    ensures { out.new ≡ over out.old (body_of id kinds.now words.now «data».now) }
-{
-    let n = put_head(out, id, kinds.len() as u64);
-    put_columns(&mut out[n..], kinds, words, data);
-}
+impl<'a> ValueList<'a> {
+    ghost use Rattle.cell.specs.Lists.{columns_in, blocks_in, used_in, body_in, GoodList};
 
-// The body's length, and the body.
-fn put_entry(out: &mut [u8], size: usize, id: u64, kinds: &[u8], words: &[u8], data: &[u8])
-    requires good { Good id kinds.now words.now «data».now size }
-    requires size_in_bounds { length (leb_bytes size) + size ≤ length out.old }
-    ensures { out.new ≡ over out.old (leb_bytes size ++ body_of id kinds.now words.now «data».now) }
-{
-    let n = varint::inner::put_u64(out, size as u64);
-    put_body(&mut out[n..], id, kinds, words, data);
+    #[tactic(auto, using(crate::proofs::Pairing::numbers_chunks), unfolding(crate::specs::ValueList::value_list, paper::specs::Answer::pick))]
+    fn new(kinds: &'a [u8], words: &'a [u8], data: &'a [u8]) -> Result<ValueList<'a>, Refusal>
+        ensures { MatchResult result (λ list. value_list kinds.now words.now «data».now ≡ columns_in list) (λ refusal. refuses (number refusal) ≡ value_list kinds.now words.now «data».now) }
+    {
+        let (words, rest) = words.as_chunks::<8>();
+        if !rest.is_empty()
+            || MAX_COLUMNS < kinds.len()
+            || MAX_COLUMNS < words.len()
+            || MAX_DATA < data.len()
+        {
+            return Err(Refusal::WrongSize);
+        }
+        if kinds.len() != words.len() {
+            return Err(Refusal::BadValueList);
+        }
+        Ok(ValueList { kinds, words, data })
+    }
+
+    // The value blocks of all columns, column by column.
+    #[tactic(auto, using(crate::proofs::Measuring::measuring))]
+    fn plain_blocks(&self) -> Result<usize, Refusal>
+        ensures { answer_of result ≡ blocks_len (columns_in self.now) }
+    {
+        let mut bytes = 0;
+        let mut rest = self.data;
+        for (kind, word) in self.kinds.iter().zip(self.words) {
+            let kind = ColumnKind::try_from(*kind)?;
+            let word = u64::from_le_bytes(*word);
+            let (size, len) = kind.measure(word, rest)?;
+            bytes += len;
+            rest = &rest[size..];
+        }
+        if rest.is_empty() {
+            Ok(bytes)
+        } else {
+            Err(Refusal::BadValueList)
+        }
+    }
+
+    // The same, where the data is ASCII. None where it is not known.
+    #[tactic(auto, using(crate::proofs::QuickMeasuring::quickly))]
+    fn quick_blocks(&self) -> Option<usize>
+        requires { Plain self.now.«data».now 0 (length self.now.«data».now) }
+        ensures { IfSome result (λ bytes. gives bytes ≡ blocks_len (columns_in self.now)) }
+    {
+        let mut bytes = 0;
+        let mut rest = self.data;
+        for (kind, word) in self.kinds.iter().zip(self.words) {
+            let kind = *kind;
+            let word = u64::from_le_bytes(*word);
+            if !is_common(kind) {
+                return None;
+            }
+            if largest_word(kind, rest.len()) < word {
+                return None;
+            }
+            bytes += quick_len(kind, word);
+            let size = for_kind(kind, Tag::Text as u8, word, 0) as usize;
+            rest = &rest[size..];
+        }
+        if rest.is_empty() { Some(bytes) } else { None }
+    }
+
+    // The value blocks of all columns. Where the quick reading does not know, the plain one tells.
+    // Laid out in both calls, as `measure` is, since a list and a Result go through memory at a call.
+    #[inline(always)]
+    fn measure_blocks(&self) -> Result<usize, Refusal>
+        ensures { answer_of result ≡ blocks_len (columns_in self.now) }
+    {
+        if utf8::inner::all_ascii(self.data) {
+            if let Some(bytes) = self.quick_blocks() {
+                return Ok(bytes);
+            }
+        }
+        self.plain_blocks()
+    }
+
+    // The length of the body that the list makes with the rowid's ZigZag number.
+    #[inline(always)]
+    #[tactic(auto, using(crate::proofs::Writing::lists))]
+    fn measure(&self, id: u64) -> Result<usize, Refusal>
+        ensures { MatchResult result (λ size. GoodList id self.now size) (λ refusal. refuses (number refusal) ≡ columns_in self.now) }
+    {
+        let blocks = self.measure_blocks()?;
+        let head = 1 + (varint_len(id) + varint_len(self.kinds.len() as u64));
+        Ok(head + (bitmap_bytes(self.kinds.len()) + blocks))
+    }
+
+    // The value blocks of all columns.
+    #[tactic(auto, using(crate::proofs::Putting::putting))]
+    fn put_blocks(&self, out: &mut [u8])
+        requires data_there { used_in self.now ≤ length self.now.«data».now }
+        requires room { length (blocks_in self.now) ≤ length out.old }
+        ensures { out.new ≡ over out.old (blocks_in self.now) }
+    {
+        let mut at = 0;
+        let mut rest = self.data;
+        for (kind, word) in self.kinds.iter().zip(self.words) {
+            // A null has no block.
+            let Ok(tag) = Tag::try_from(*kind) else {
+                continue;
+            };
+            let word = u64::from_le_bytes(*word);
+            at += put_block(&mut out[at..], tag, word, rest);
+            rest = &rest[data_used(tag, word)..];
+        }
+    }
+
+    // The entry of a good list: its length, the head, the bitmap and the value blocks.
+    fn put_entry(&self, out: &mut [u8], size: usize, id: u64)
+        requires good { GoodList id self.now size }
+        requires room { length (leb_bytes size) + size ≤ length out.old }
+        ensures { out.new ≡ over out.old (leb_bytes size ++ body_in id self.now) }
+    {
+        let mut at = varint::inner::put_u64(out, size as u64);
+        at += put_head(&mut out[at..], id, self.kinds.len() as u64);
+        at += put_bitmap(&mut out[at..], self.kinds);
+        self.put_blocks(&mut out[at..]);
+    }
 }
 
 // Writes the entry of a value list: its kinds, its words of eight bytes each, and its data. A refused write changes no byte.
-pub fn encode(rowid: i64, kinds: &[u8], words: &[u8], data: &[u8], out: &mut [u8]) -> varint::Wrote
-    ensures result_value { paper_wrote result ≡ size_of (write_cell rowid kinds.now words.now «data».now (length out.old)) }
+#[tactic(auto, using(crate::proofs::Writing::calls))]
+pub fn encode(
+    rowid: i64,
+    kinds: &[u8],
+    words: &[u8],
+    data: &[u8],
+    out: &mut [u8],
+) -> Result<usize, Refusal>
+    ensures result_value { answer_of result ≡ size_of (write_cell rowid kinds.now words.now «data».now (length out.old)) }
     ensures out_after { out.new ≡ put out.old (write_cell rowid kinds.now words.now «data».now (length out.old)) }
 {
+    let list = ValueList::new(kinds, words, data)?;
     let id = varint::zigzag_encode(rowid);
-    let body = measure(id, kinds, words, data);
-    if body.refusal != 0 {
-        return varint::Wrote::Refused(body.refusal);
-    }
-    let size = body.bytes;
+    let size = list.measure(id)?;
     let bytes = varint_len(size as u64) + size;
     if out.len() < bytes {
-        return varint::Wrote::Refused(16);
+        return Err(Refusal::OutputTooShort);
     }
-    put_entry(out, size, id, kinds, words, data);
-    varint::Wrote::Bytes(bytes)
+    list.put_entry(out, size, id);
+    Ok(bytes)
 }
 
 // The length that `encode` would write.
-pub fn encoded_len(rowid: i64, kinds: &[u8], words: &[u8], data: &[u8]) -> varint::Wrote
-    ensures { paper_wrote result ≡ size_of (encoded rowid kinds.now words.now «data».now) }
+#[tactic(auto, using(crate::proofs::Writing::calls))]
+pub fn encoded_len(rowid: i64, kinds: &[u8], words: &[u8], data: &[u8]) -> Result<usize, Refusal>
+    ensures { answer_of result ≡ size_of (encoded rowid kinds.now words.now «data».now) }
 {
-    let body = measure(varint::zigzag_encode(rowid), kinds, words, data);
-    if body.refusal != 0 {
-        return varint::Wrote::Refused(body.refusal);
-    }
-    let size = body.bytes;
-    varint::Wrote::Bytes(varint_len(size as u64) + size)
+    let list = ValueList::new(kinds, words, data)?;
+    let size = list.measure(varint::zigzag_encode(rowid))?;
+    Ok(varint_len(size as u64) + size)
 }

@@ -7,36 +7,39 @@ pub mod tag;
 pub mod value;
 
 ghost use Rattle.std.specs.Prelude.{◌≡◌, drop};
-ghost use Rattle.cell.specs.Entry.{peek_kind, peek_rowid, rowid_at, size_at};
+ghost use Rattle.paper.specs.Answer.{answer_of};
+ghost use Rattle.cell.specs.Entry.{peek_kind, peek_rowid, size_at};
+ghost use Rattle.cell.specs.Kind.{Names};
 ghost use Rattle.cell.specs.Local.{head_from};
-ghost use Rattle.cell.specs.Paper.{paper_kind, paper_rowid, paper_size, paper_head};
+ghost use Rattle.cell.specs.Words.{kind_place};
+ghost use Rattle.cell.specs.Paper.{paper_head};
 
-use inner::NO_PLACE;
-use paper::inner::number;
+use inner::framing::frame;
+use inner::local_body;
+use paper::Refusal;
+use varint::inner::value_at;
 
-// The kinds of entries: a row, a reference to a row in an overflow chain, a divider.
-pub const KIND_LOCAL: u8 = 1;
-
-pub const KIND_OVERFLOW: u8 = 2;
-
-pub const KIND_INTERIOR: u8 = 3;
-
-#[derive(Clone, Copy)]
-pub enum PeekedKind {
-    Kind(u8),
-    Refused(u8),
+// The kinds of entries, each with its byte: a row, a reference to a row in an overflow chain, a divider.
+#[derive(Clone, Copy, PartialEq, Eq)]
+pub enum Kind {
+    Local = 1,
+    Overflow = 2,
+    Interior = 3,
 }
 
-#[derive(Clone, Copy)]
-pub enum PeekedRowid {
-    Rowid(i64),
-    Refused(u8),
-}
+impl TryFrom<u8> for Kind {
+    type Error = Refusal;
 
-#[derive(Clone, Copy)]
-pub enum Measured {
-    Bytes(usize),
-    Refused(u8),
+    ghost try_from_gives = { Names };
+
+    fn try_from(byte: u8) -> Result<Kind, Refusal> {
+        match byte {
+            1 => Ok(Kind::Local),
+            2 => Ok(Kind::Overflow),
+            3 => Ok(Kind::Interior),
+            _ => Err(Refusal::WrongKind),
+        }
+    }
 }
 
 // What an entry says before its values: its rowid, how many columns it has, how many bytes it takes.
@@ -47,106 +50,59 @@ pub struct Head {
     pub bytes: usize,
 }
 
-#[derive(Clone, Copy)]
-pub enum Decoded {
-    Head(Head),
-    Refused(u8),
+// The place of the kind byte of the entry at `pos`, behind its length (4).
+#[tactic(auto, using(crate::proofs::Peeks::peeks), unfolding(paper::specs::Answer::and_then, paper::specs::Answer::pick))]
+fn kind_place(buf: &[u8], pos: usize) -> Result<usize, Refusal>
+    ensures { answer_of result ≡ kind_place buf.now pos }
+{
+    let (_, taken) = value_at(buf, pos)?;
+    if buf.len() <= pos + taken {
+        return Err(Refusal::NoKind);
+    }
+    Ok(pos + taken)
 }
 
 // The rowid of an entry of any kind, skipping the rest.
-pub fn peek_rowid(buf: &[u8], pos: usize) -> PeekedRowid
-    ensures { paper_rowid result ≡ peek_rowid (drop pos buf.now) }
+#[tactic(auto, using(crate::proofs::Peeks::peeks), unfolding(paper::specs::Answer::and_then, crate::specs::Entry::rowid_at))]
+pub fn peek_rowid(buf: &[u8], pos: usize) -> Result<i64, Refusal>
+    ensures { answer_of result ≡ peek_rowid (drop pos buf.now) }
 {
-    let len = varint::inner::value_at(buf, pos);
-    if len.taken == 0 {
-        return PeekedRowid::Refused(1);
-    }
-    if 10 < len.taken {
-        return PeekedRowid::Refused(2);
-    }
-    let kind = pos + len.taken;
-    if buf.len() <= kind {
-        return PeekedRowid::Refused(4);
-    }
-    rowid_at(buf, kind + 1)
+    let kind = kind_place(buf, pos)?;
+    let (rowid, _) = varint::read(buf, kind + 1)?;
+    Ok(rowid)
 }
 
-fn rowid_at(buf: &[u8], pos: usize) -> PeekedRowid
-    ensures { paper_rowid result ≡ rowid_at buf.now pos }
+// The bytes of the entry, its length varint among them, wherever its body ends (3 past the largest number).
+#[tactic(auto, using(crate::proofs::Peeks::peeks), unfolding(paper::specs::Answer::and_then, paper::specs::Answer::pick, varint::specs::Leb::read_u64, crate::specs::Entry::size_at))]
+pub fn encoded_size_at(buf: &[u8], pos: usize) -> Result<usize, Refusal>
+    ensures { answer_of result ≡ size_at (drop pos buf.now) }
 {
-    let rowid = varint::inner::value_at(buf, pos);
-    if rowid.taken == 0 {
-        return PeekedRowid::Refused(1);
-    }
-    if 10 < rowid.taken {
-        return PeekedRowid::Refused(2);
-    }
-    PeekedRowid::Rowid(varint::zigzag_decode(rowid.value))
-}
-
-// The bytes of the entry, its length varint among them, wherever its body ends.
-pub fn encoded_size_at(buf: &[u8], pos: usize) -> Measured
-    ensures { paper_size result ≡ size_at (drop pos buf.now) }
-{
-    let len = varint::inner::value_at(buf, pos);
-    if len.taken == 0 {
-        return Measured::Refused(1);
-    }
-    if 10 < len.taken {
-        return Measured::Refused(2);
-    }
-    let size = len.value as usize;
-    if 0xFFFF_FFFF_FFFF_FFFF - len.taken < size {
-        return Measured::Refused(3);
-    }
-    Measured::Bytes(len.taken + size)
+    let (size, taken) = value_at(buf, pos)?;
+    taken
+        .checked_add(size as usize)
+        .ok_or(Refusal::EntryPastEnd)
 }
 
 // The kind byte, whatever it is.
-pub fn peek_kind(buf: &[u8], pos: usize) -> PeekedKind
-    ensures { paper_kind result ≡ peek_kind (drop pos buf.now) }
+#[tactic(auto, using(crate::proofs::Peeks::peeks), unfolding(paper::specs::Answer::and_then))]
+pub fn peek_kind(buf: &[u8], pos: usize) -> Result<u8, Refusal>
+    ensures { answer_of result ≡ peek_kind (drop pos buf.now) }
 {
-    let len = varint::inner::value_at(buf, pos);
-    if len.taken == 0 {
-        return PeekedKind::Refused(1);
-    }
-    if 10 < len.taken {
-        return PeekedKind::Refused(2);
-    }
-    let kind = pos + len.taken;
-    if buf.len() <= kind {
-        return PeekedKind::Refused(4);
-    }
-    PeekedKind::Kind(buf[kind])
-}
-
-// The head of the local entry at the start of `s`.
-fn decode_from(s: &[u8]) -> Decoded
-    ensures { paper_head result ≡ head_from s.now }
-{
-    let framed = inner::frame(s);
-    let at = framed.at;
-    let end = framed.end;
-    if NO_PLACE <= end {
-        return Decoded::Refused(number(end));
-    }
-    let row = inner::local_body(&s[at..end]);
-    if NO_PLACE <= row.end {
-        return Decoded::Refused(number(row.end));
-    }
-    Decoded::Head(Head {
-        rowid: varint::zigzag_decode(row.rowid),
-        columns: row.columns,
-        bytes: end,
-    })
+    let kind = kind_place(buf, pos)?;
+    Ok(buf[kind])
 }
 
 // Reads the local entry at `pos`: its head, or the first refusal of its length, frame, kind, rowid, columns and end.
-pub fn decode(buf: &[u8], pos: usize) -> Decoded
+#[tactic(auto, using(crate::proofs::Heads::heads), unfolding(crate::specs::Local::head_from, crate::specs::Local::cell_from, crate::specs::Entry::entry, paper::specs::Answer::and_then))]
+pub fn decode(buf: &[u8], pos: usize) -> Result<Head, Refusal>
     ensures { paper_head result ≡ head_from (drop pos buf.now) }
 {
-    if buf.len() <= pos {
-        return Decoded::Refused(1);
-    }
-    decode_from(&buf[pos..])
+    let s = buf.get(pos..).ok_or(Refusal::VarintPastEnd)?;
+    let body = frame(s)?;
+    let row = local_body(&s[body.at..body.end])?;
+    Ok(Head {
+        rowid: row.rowid,
+        columns: row.columns.count,
+        bytes: body.end,
+    })
 }

@@ -1,10 +1,30 @@
 // The tag that opens a value block.
-pub const INTEGER: u8 = 0;
+ghost use Rattle.cell.specs.Tag.{Tagged};
 
-pub const REAL: u8 = 1;
+use paper::Refusal;
 
-pub const TEXT: u8 = 2;
+#[derive(Clone, Copy, PartialEq, Eq)]
+pub enum Tag {
+    Integer = 0,
+    Real = 1,
+    Text = 2,
+    Bool = 3,
+    Vector = 4,
+}
 
-pub const BOOL: u8 = 3;
+impl TryFrom<u8> for Tag {
+    type Error = Refusal;
 
-pub const VECTOR: u8 = 4;
+    ghost try_from_gives = { Tagged };
+
+    fn try_from(byte: u8) -> Result<Tag, Refusal> {
+        match byte {
+            0 => Ok(Tag::Integer),
+            1 => Ok(Tag::Real),
+            2 => Ok(Tag::Text),
+            3 => Ok(Tag::Bool),
+            4 => Ok(Tag::Vector),
+            _ => Err(Refusal::UnknownTag),
+        }
+    }
+}

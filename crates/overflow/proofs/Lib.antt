@@ -1,5 +1,4 @@
 pub mod References
-pub mod PagedEntries
 pub mod RefWriting
 pub mod LeafView
 pub mod RefBack

@@ -8,7 +8,10 @@ use lib.Dec.{leb, ltb, eqb}
 use lib.ListN.{length, drop}
 use borrow.Author.Rules.{rules}
 use borrow.Author.Tests.{lt-ltb, le-ltb, le-leb, lt-leb, eq-eqb, ne_eqb}
-use Rattle.paper.specs.Answer.{Answer, gives, refuses, and_then, pick, over, put, size_of}
+use Rattle.std.specs.Prelude.{Result, Ok, Err, IsErrAnd}
+use Rattle.paper.specs.Answer.{Answer, gives, refuses, told, and_then, pick, over, put, size_of}
+use Rattle.paper.specs.Refusal.{number}
+use Rattle.paper.specs.declared.Refusal.{Refusal}
 
 -- ---- a promise that is an equation with a definition leaves one answer and one content
 
@@ -72,6 +75,12 @@ module _ {A B : Type 0} (f : A → Answer B) {q : Answer A} where
   pub then_refuses : {k : ℕ} → refuses k ≡ q → refuses k ≡ and_then q f
   unfolding and_then
   then_refuses h = rw (sym h)
+
+-- ---- what a step of the code answers where a `?` hands a refusal on: the refusal, in words of any type
+pub told_err : {A B : Type 0} (words : A → B) (r : Result A Refusal) (refusal : Refusal) {q : Answer B} → IsErrAnd r (λ e. e ≡ refusal) → refuses (number refusal) ≡ q
+    → told words r ≡ q
+told_err words (Ok a) refusal p h = elim p [ ]
+told_err words (Err e) refusal p h = rw p h
 
 -- ---- outputs
 pub put_gives : (out bytes : List ℕ) {d : Answer (List ℕ)} → d ≡ gives bytes → put out d ≡ bytes ++ drop (length bytes) out

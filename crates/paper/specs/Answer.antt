@@ -1,9 +1,20 @@
 -- The words of a promise. A call of document 01 either gives something or refuses by number.
-use Rattle.std.specs.Prelude.{ℕ, Bool, true, false, List, ◌++◌, length, drop}
+use Rattle.std.specs.Prelude.{ℕ, Bool, true, false, List, ◌++◌, length, drop, Result, Ok, Err}
+use Rattle.paper.specs.declared.Refusal.{Refusal}
+use Rattle.paper.specs.Refusal.{number}
 
 pub data Answer (A : Type 0) : Type 0 where
   gives : A → Answer A
   refuses : ℕ → Answer A
+
+-- what an answer of the code stands for: its value in document 01's words, or the number of its refusal
+abbrev pub told : {A B : Type 0} → (A → B) → Result A Refusal → Answer B
+told words (Ok a) = gives (words a)
+told words (Err refusal) = refuses (number refusal)
+
+-- the same, where the value is in those words
+abbrev pub answer_of : {A : Type 0} → Result A Refusal → Answer A
+answer_of answer = told (λ a. a) answer
 
 -- one step after another: the first refusal is the answer
 unfoldable pub and_then : {A B : Type 0} → Answer A → (A → Answer B) → Answer B

@@ -1,95 +1,100 @@
-// Comparing what a call gave with what the line says of it.
-use crate::fields::{field, fill, number};
+// Making a call again and comparing what it gives with the fields that the line has left.
+use crate::fault::Fault;
+use crate::fields::Fields;
 
-// The room for a slice of the record: four pages of a store. record.rs keeps to it.
+// The room for a slice of the record: four pages of a store. record.rs keeps to it. A room is an array, of which the part that was filled is
+// lent back: a `Vec` could fail in the middle of a line, and would rest the verdict on more statements about the C library.
 pub const ROOM: usize = 0x4000;
 
 // Stands in an answer array before a call, and after one that is refused.
-pub const UNTOUCHED: u64 = 0xA5A5_5A5A_C3C3_3C3C;
+const UNTOUCHED: u64 = 0xA5A5_5A5A_C3C3_3C3C;
 
-// The result `code` of a call that has no answer array, against the field `k`.
-pub fn code_agrees(text: &[u8], line: usize, k: usize, code: u32) -> bool {
-    number(text, field(text, line, k)) == code as u64
+// An answer array. The bound of a closure can name a type, and no length.
+pub trait Answer: Drop {
+    fn untouched() -> Self;
+
+    fn words(&self) -> &[u64];
 }
 
-// One for each length of an answer array: an array's length is known where it is lent as an array, and would be asked for where it is lent as a slice.
-pub fn one_agrees(text: &[u8], line: usize, k: usize, code: u32, answer: &[u64; 1]) -> bool {
-    answer_agrees(text, line, k, code, answer)
-}
-
-pub fn two_agree(text: &[u8], line: usize, k: usize, code: u32, answer: &[u64; 2]) -> bool {
-    answer_agrees(text, line, k, code, answer)
-}
-
-pub fn three_agree(text: &[u8], line: usize, k: usize, code: u32, answer: &[u64; 3]) -> bool {
-    answer_agrees(text, line, k, code, answer)
-}
-
-pub fn four_agree(text: &[u8], line: usize, k: usize, code: u32, answer: &[u64; 4]) -> bool {
-    answer_agrees(text, line, k, code, answer)
-}
-
-pub fn five_agree(text: &[u8], line: usize, k: usize, code: u32, answer: &[u64; 5]) -> bool {
-    answer_agrees(text, line, k, code, answer)
-}
-
-// The result `code` and the answer array, against the fields from `k` on: the number and, where it is 0, the values.
-fn answer_agrees(text: &[u8], line: usize, k: usize, code: u32, answer: &[u64]) -> bool {
-    let at = field(text, line, k);
-    if number(text, at) != code as u64 {
-        return false;
+impl<const N: usize> Answer for [u64; N] {
+    fn untouched() -> Self {
+        [UNTOUCHED; N]
     }
-    if code != 0 {
-        return all_untouched(answer);
+
+    fn words(&self) -> &[u64] {
+        self
     }
-    values_agree(text, at, answer)
 }
 
-// The values, against the fields after the one at `from`.
-fn values_agree(text: &[u8], from: usize, answer: &[u64]) -> bool {
-    let mut at = from;
-    for value in answer {
-        at = field(text, at, 1);
-        if *value != number(text, at) {
-            return false;
+impl Fields<'_> {
+    // refusal, values: goes on to the field behind them.
+    fn agree(&mut self, code: u32, answer: &[u64]) -> Result<(), Fault> {
+        if self.number() != u64::from(code) {
+            return Err(Fault::Refusal);
         }
-    }
-    true
-}
-
-fn all_untouched(answer: &[u64]) -> bool {
-    for value in answer {
-        if *value != UNTOUCHED {
-            return false;
+        if code == 0 {
+            for word in answer {
+                if *word != self.number() {
+                    return Err(Fault::Value);
+                }
+            }
+        } else if answer.iter().any(|word| *word != UNTOUCHED) {
+            return Err(Fault::Touched);
         }
+        Ok(())
     }
-    true
-}
 
-// An output after the call, against the fields of it before and, where the call was accepted, after the call.
-fn output_agrees(text: &[u8], before: usize, after: usize, code: u32, out: &[u8; ROOM]) -> bool {
-    let last = if code == 0 { after } else { before };
-    let mut expected = [0u8; ROOM];
-    let mut sound = true;
-    fill(text, before, &mut expected, &mut sound);
-    fill(text, last, &mut expected, &mut sound);
-    sound && *out == expected
-}
+    // refusal, values
+    pub fn answered<A: Answer, F: FnOnce(&mut A) -> u32>(mut self, call: F) -> Result<(), Fault>
+        requires { F.IsAlwaysCallable call }
+    {
+        let mut answer = A::untouched();
+        let code = call(&mut answer);
+        self.agree(code, answer.words())
+    }
 
-// A write's result, its bytes and its output, against the fields from the output's own at `before` on.
-pub fn write_agrees(
-    sound: bool,
-    text: &[u8],
-    before: usize,
-    code: u32,
-    answer: &[u64; 1],
-    out: &[u8; ROOM],
-) -> bool {
-    if !sound {
-        return false;
+    // buf, pos, refusal, values
+    pub fn read<A: Answer, F: FnOnce(&[u8], usize, &mut A) -> u32>(
+        mut self,
+        call: F,
+    ) -> Result<(), Fault>
+        requires { F.IsAlwaysCallable call }
+    {
+        let mut room = [0u8; ROOM];
+        let buf = self.bytes(&mut room)?;
+        let pos = self.number() as usize;
+        self.answered(|answer| call(buf, pos, answer))
     }
-    if !one_agrees(text, before, 1, code, answer) {
-        return false;
+
+    // out, refusal, bytes, out afterwards
+    pub fn written<F: FnOnce(&mut [u8], &mut [u64; 1]) -> u32>(
+        mut self,
+        call: F,
+    ) -> Result<(), Fault>
+        requires { F.IsAlwaysCallable call }
+    {
+        let mut before = self;
+        let mut room = [0u8; ROOM];
+        let out = self.bytes(&mut room)?;
+        let mut answer = [UNTOUCHED];
+        let code = call(out, &mut answer);
+        self.agree(code, &answer)?;
+        let mut expected = [0u8; ROOM];
+        before.bytes(&mut expected)?;
+        if code == 0 {
+            self.bytes(&mut expected)?;
+        }
+        if room != expected {
+            return Err(Fault::Output);
+        }
+        Ok(())
     }
-    output_agrees(text, before, field(text, before, 3), code, out)
+
+    // value, 0, the answer itself
+    pub fn direct<F: FnOnce(u64) -> u64>(mut self, call: F) -> Result<(), Fault>
+        requires { F.IsAlwaysCallable call }
+    {
+        let value = self.number();
+        self.agree(0, &[call(value)])
+    }
 }

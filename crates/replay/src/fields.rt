@@ -1,192 +1,136 @@
-// Reading the fields of a line; rust/differential/src/record.rs has the notation. Every function takes any text and any place: past the
-// end there are zeros.
-ghost use Rattle.std.specs.Prelude.{◌≡◌, ◌+◌, ◌<◌, ◌≤◌, length, take};
+// The fields of a line; rust/differential/src/record.rs has the notation. Any text is read: past its end a number is 0, and a line that lacks
+// a field goes on in the next line.
+ghost use Rattle.std.specs.Prelude.{◌<◌, ◌≤◌, length, IfOk, IfSome};
+ghost use Rattle.std.specs.Iterator.{at_most};
 
-fn byte_at(text: &[u8], at: usize) -> u8 {
-    if at < text.len() { text[at] } else { 0 }
-}
+use crate::fault::Fault;
 
-// The place after `at`, `n` further on.
-fn on(at: usize, n: usize) -> usize {
-    at.wrapping_add(n)
-}
-
-// The place after the next `stop` from `at` on, or the end of the text.
-pub fn after(text: &[u8], at: usize, stop: u8) -> usize
-    ensures { at < length text.now → at < result }
+// The text after the next `stop`, or its end.
+pub fn after(text: &[u8], stop: u8) -> &[u8]
+    ensures { 0 < length text.now → length result.now < length text.now }
 {
-    for i in at..text.len() {
-        if text[i] == stop {
-            return i + 1;
-        }
+    match text.iter().position(|byte| *byte == stop) {
+        Some(place) => &text[place + 1..],
+        None => &[],
     }
-    text.len().max(at)
 }
 
-// Where field `k` of the line at `line` starts; the first is field 0.
-pub fn field(text: &[u8], line: usize, k: usize) -> usize {
-    let mut at = line;
-    for _ in 0..k {
-        at = after(text, at, b' ');
-    }
-    at
-}
-
-// What no hexadecimal digit stands for.
-const NO_DIGIT: u8 = 16;
-
-fn digit(byte: u8) -> u8
-    ensures { result ≤ 16 }
+fn digit(byte: u8) -> Result<u8, Fault>
+    ensures { IfOk result (λ value. value < 16) }
 {
-    if byte < b'0' {
-        return NO_DIGIT;
-    }
-    if byte <= b'9' {
-        return byte - b'0';
-    }
-    if byte < b'a' {
-        return NO_DIGIT;
-    }
-    if byte <= b'f' {
-        return byte - b'a' + 10;
-    }
-    NO_DIGIT
-}
-
-// The number that starts at `at`, in hexadecimal digits.
-pub fn number(text: &[u8], at: usize) -> u64 {
-    let mut value: u64 = 0;
-    for i in at..text.len() {
-        let d = digit(text[i]);
-        if d == NO_DIGIT {
-            return value;
-        }
-        value = (value << 4).wrapping_add(d as u64);
-    }
-    value
-}
-
-// The signed number whose 64-bit pattern starts at `at`.
-pub fn signed(text: &[u8], at: usize) -> i64 {
-    of_pattern(number(text, at))
-}
-
-fn of_pattern(bits: u64) -> i64 {
-    if bits < 0x8000_0000_0000_0000 {
-        bits as i64
-    } else {
-        !((u64::MAX - bits) as i64)
+    match byte {
+        b'0'..=b'9' => Ok(byte - b'0'),
+        b'a'..=b'f' => Ok(byte - b'a' + 10),
+        _ => Err(Fault::Notation),
     }
 }
 
-// The page number that starts at `at`. Where it has more than 32 bits, `sound` is set to false.
-pub fn page_number(text: &[u8], at: usize, sound: &mut bool) -> u32 {
-    let page = number(text, at);
-    if page <= 0xFFFF_FFFF {
-        page as u32
-    } else {
-        *sound = false;
-        0
-    }
+// Two digits as a byte.
+fn pair(high: u8, low: u8) -> Result<u8, Fault> {
+    Ok(digit(high)? * 16 + digit(low)?)
 }
 
-// A step of a field of bytes.
+// Four digits as a count of places. Two of them that are no byte count as 256.
+fn count(first: u8, second: u8, third: u8, fourth: u8) -> usize {
+    let high = pair(first, second).map_or(256, usize::from);
+    let low = pair(third, fourth).map_or(256, usize::from);
+    high * 256 + low
+}
+
+// A step of a field of bytes: so many places, which take this value or are left as they are.
 #[derive(Clone, Copy)]
-enum Step {
-    // So many bytes of this value; and the place of the next step.
-    Run(usize, u8, usize),
-    // So many places are left as they are.
-    Leave(usize, usize),
-    End,
-    // No step of this notation.
-    Bad,
+struct Step {
+    count: usize,
+    byte: Option<u8>,
 }
 
-// Two digits as a byte, or 256 where they are none.
-fn pair(text: &[u8], at: usize) -> u64
-    ensures { result ≤ 256 }
+// The step that `text` starts with, and the text behind it; None where the field ends.
+fn first_step(text: &[u8]) -> Result<Option<(Step, &[u8])>, Fault>
+    ensures { IfOk result (λ first. IfSome first (λ step. length step.1.now < length text.now)) }
 {
-    let high = digit(byte_at(text, at));
-    let low = digit(byte_at(text, on(at, 1)));
-    if high == NO_DIGIT {
-        return 256;
-    }
-    if low == NO_DIGIT {
-        return 256;
-    }
-    high as u64 * 16 + low as u64
-}
-
-// Four digits.
-fn four(text: &[u8], at: usize) -> usize {
-    let high = pair(text, at);
-    let low = pair(text, on(at, 2));
-    (high * 256 + low) as usize
-}
-
-fn run_of(count: usize, text: &[u8], at: usize) -> Step {
-    let byte = pair(text, at);
-    if byte < 256 {
-        Step::Run(count, byte as u8, on(at, 2))
-    } else {
-        Step::Bad
-    }
-}
-
-fn step_at(text: &[u8], at: usize) -> Step {
-    match byte_at(text, at) {
-        b'_' => Step::Leave(four(text, on(at, 1)), on(at, 5)),
-        b'x' => run_of(four(text, on(at, 1)), text, on(at, 5)),
-        b' ' | b'\n' | b'-' => Step::End,
-        _ => run_of(1, text, at),
-    }
-}
-
-// Puts `byte` to `count` places of `buf` from `at` on.
-fn put_run(buf: &mut [u8], at: usize, count: usize, byte: u8)
-    requires { at + count ≤ length buf.old }
-{
-    for i in at..at + count {
-        buf[i] = byte;
-    }
-}
-
-// Puts the bytes of the field at `at` into `buf`, over what stands there, and answers how many places it covers. Where there is no
-// room for them, or the field is none of bytes, `sound` is set to false.
-pub fn fill(text: &[u8], at: usize, buf: &mut [u8], sound: &mut bool) -> usize
-    ensures within { result ≤ length buf.new }
-    ensures prefix { result ≡ length (take result buf.new) }
-{
-    let mut i = at;
-    let mut n: usize = 0;
-    for _ in 0..text.len() {
-        match step_at(text, i) {
-            Step::Run(count, byte, next) => {
-                if buf.len() - n < count {
-                    *sound = false;
-                    return n;
-                }
-                put_run(buf, n, count, byte);
-                n += count;
-                i = next;
-            }
-            Step::Leave(count, next) => {
-                if buf.len() - n < count {
-                    *sound = false;
-                    return n;
-                }
-                n += count;
-                i = next;
-            }
-            Step::End => {
-                return n;
-            }
-            Step::Bad => {
-                *sound = false;
-                return n;
-            }
+    let (count, byte, rest) = match text {
+        [b' ' | b'\n' | b'-', ..] => return Ok(None),
+        [b'_', a, b, c, d, rest @ ..] => (count(*a, *b, *c, *d), None, rest),
+        [b'x', a, b, c, d, high, low, rest @ ..] => {
+            (count(*a, *b, *c, *d), Some(pair(*high, *low)?), rest)
         }
+        [high, low, rest @ ..] => (1, Some(pair(*high, *low)?), rest),
+        _ => return Err(Fault::Notation),
+    };
+    Ok(Some((Step { count, byte }, rest)))
+}
+
+// The text from a field on.
+#[derive(Clone, Copy)]
+pub struct Fields<'a>(&'a [u8]);
+
+impl<'a> Fields<'a> {
+    // The text from this field on. Each of these methods goes on to the next field.
+    fn field(&mut self) -> &'a [u8] {
+        let field = self.0;
+        self.0 = after(field, b' ');
+        field
     }
-    *sound = false;
-    n
+
+    // The number of the call that the line makes, if it is not for the reader alone.
+    pub fn call(&mut self) -> Option<u64> {
+        if self.0.starts_with(b"#") {
+            return None;
+        }
+        Some(self.number())
+    }
+
+    // The number in the hexadecimal digits that the field starts with.
+    pub fn number(&mut self) -> u64 {
+        self.field()
+            .iter()
+            .map_while(|byte| digit(*byte).ok())
+            .fold(0, |value: u64, digit| (value << 4) | u64::from(digit))
+    }
+
+    // The signed number of this 64-bit pattern.
+    pub fn signed(&mut self) -> i64 {
+        self.number().cast_signed()
+    }
+
+    pub fn page_number(&mut self) -> Result<u32, Fault> {
+        u32::try_from(self.number()).map_err(|_| Fault::PageNumber)
+    }
+
+    // Puts the field's bytes into `room`, over what stands there, and answers the part that they cover.
+    pub fn bytes<'b>(&mut self, room: &'b mut [u8]) -> Result<&'b mut [u8], Fault>
+        ensures { IfOk result (λ bytes. length bytes.now ≤ length room.old) }
+    {
+        let mut text = self.field();
+        let mut covered: usize = 0;
+        while let Some((step, rest)) = first_step(text)? {
+            let end = covered.saturating_add(step.count);
+            let places = room.get_mut(covered..end).ok_or(Fault::Room)?;
+            if let Some(byte) = step.byte {
+                places.fill(byte);
+            }
+            covered = end;
+            text = rest;
+        }
+        room.get_mut(..covered).ok_or(Fault::Room)
+    }
+}
+
+// The lines of a text: the fields of each.
+#[derive(Drop)]
+pub struct Lines<'a>(pub &'a [u8]);
+
+impl<'a> Iterator for Lines<'a> {
+    type Item = Fields<'a>;
+
+    ghost remaining = { λ lines. at_most (length lines.0.now) };
+
+    fn next(&mut self) -> Option<Fields<'a>> {
+        let text = self.0;
+        if text.is_empty() {
+            return None;
+        }
+        self.0 = after(text, b'\n');
+        Some(Fields(text))
+    }
 }

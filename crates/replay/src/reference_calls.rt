@@ -1,102 +1,42 @@
-// The calls of data/references.txt: overflow references, paged entries and interior cells.
-use crate::answers::{ROOM, UNTOUCHED, five_agree, four_agree, three_agree, write_agrees};
-use crate::fields::{field, fill, number, page_number, signed};
-use crate::print;
+// The calls of data/references.txt, in the order of rust/differential/src/references.rs: overflow references, paged entries and interior cells.
+use crate::calls::{Layer, Replay};
+use crate::fault::Fault;
+use crate::fields::Fields;
+use seremonek::interior::{smk_interior_cell_decode, smk_interior_cell_encode};
+use seremonek::reference::{smk_entry_decode, smk_overflow_decode, smk_overflow_encode};
 use std::io;
 
-// Numbered from 1 on, in the order of rust/differential/src/references.rs.
-pub const CALLS: usize = 5;
+pub struct References;
 
-pub fn print_name(rt: &impl Print, call: usize) -> io::Result<()> {
-    match call {
-        1 => print::text(rt, "smk_overflow_decode"),
-        2 => print::text(rt, "smk_overflow_encode"),
-        3 => print::text(rt, "smk_entry_decode"),
-        4 => print::text(rt, "smk_interior_cell_decode"),
-        5 => print::text(rt, "smk_interior_cell_encode"),
-        _ => print::text(rt, "unknown"),
+impl Layer for References {
+    const FILE: &'static str = "references.txt";
+
+    fn calls<R: Print>(replay: &mut Replay<'_, R>) -> io::Result<()> {
+        replay.call(
+            "smk_overflow_decode",
+            |fields| fields.read(smk_overflow_decode),
+        )?;
+        replay.call("smk_overflow_encode", overflow_encode)?;
+        replay.call("smk_entry_decode", |fields| fields.read(smk_entry_decode))?;
+        replay.call(
+            "smk_interior_cell_decode",
+            |fields| fields.read(smk_interior_cell_decode),
+        )?;
+        replay.call("smk_interior_cell_encode", interior_encode)
     }
 }
 
-// The recorded call on the line at `line`, made again: does the answer agree?
-pub fn replayed(call: usize, text: &[u8], line: usize) -> bool {
-    match call {
-        1 => overflow_decode(text, line),
-        2 => overflow_encode(text, line),
-        3 => entry_decode(text, line),
-        4 => interior_decode(text, line),
-        5 => interior_encode(text, line),
-        _ => false,
-    }
+// rowid, total, first page, out
+fn overflow_encode(mut fields: Fields<'_>) -> Result<(), Fault> {
+    let rowid = fields.signed();
+    let total = fields.number();
+    let first = fields.page_number()?;
+    fields.written(|out, answer| smk_overflow_encode(rowid, total, first, out, answer))
 }
 
-// buf, pos; rowid, total, first page, bytes
-fn overflow_decode(text: &[u8], line: usize) -> bool {
-    let mut buf = [0u8; ROOM];
-    let mut sound = true;
-    let n = fill(text, field(text, line, 1), &mut buf, &mut sound);
-    let pos = number(text, field(text, line, 2)) as usize;
-    let mut answer = [UNTOUCHED; 4];
-    let code = seremonek::reference::smk_overflow_decode(&buf[..n], pos, &mut answer);
-    sound && four_agree(text, line, 3, code, &answer)
-}
-
-// rowid, total, first page, out; bytes
-fn overflow_encode(text: &[u8], line: usize) -> bool {
-    let rowid = signed(text, field(text, line, 1));
-    let total = number(text, field(text, line, 2));
-    let before = field(text, line, 4);
-    let mut out = [0u8; ROOM];
-    let mut sound = true;
-    let first = page_number(text, field(text, line, 3), &mut sound);
-    let n = fill(text, before, &mut out, &mut sound);
-    let mut answer = [UNTOUCHED; 1];
-    let code = seremonek::reference::smk_overflow_encode(
-        rowid,
-        total,
-        first,
-        &mut out[..n],
-        &mut answer,
-    );
-    write_agrees(sound, text, before, code, &answer, &out)
-}
-
-// buf, pos; kind, rowid, columns or total, 0 or first page, bytes
-fn entry_decode(text: &[u8], line: usize) -> bool {
-    let mut buf = [0u8; ROOM];
-    let mut sound = true;
-    let n = fill(text, field(text, line, 1), &mut buf, &mut sound);
-    let pos = number(text, field(text, line, 2)) as usize;
-    let mut answer = [UNTOUCHED; 5];
-    let code = seremonek::reference::smk_entry_decode(&buf[..n], pos, &mut answer);
-    sound && five_agree(text, line, 3, code, &answer)
-}
-
-// buf, pos; divider, child page, bytes
-fn interior_decode(text: &[u8], line: usize) -> bool {
-    let mut buf = [0u8; ROOM];
-    let mut sound = true;
-    let n = fill(text, field(text, line, 1), &mut buf, &mut sound);
-    let pos = number(text, field(text, line, 2)) as usize;
-    let mut answer = [UNTOUCHED; 3];
-    let code = seremonek::interior::smk_interior_cell_decode(&buf[..n], pos, &mut answer);
-    sound && three_agree(text, line, 3, code, &answer)
-}
-
-// divider, child page, out; bytes
-fn interior_encode(text: &[u8], line: usize) -> bool {
-    let divider = signed(text, field(text, line, 1));
-    let before = field(text, line, 3);
-    let mut out = [0u8; ROOM];
-    let mut sound = true;
-    let child = page_number(text, field(text, line, 2), &mut sound);
-    let n = fill(text, before, &mut out, &mut sound);
-    let mut answer = [UNTOUCHED; 1];
-    let code = seremonek::interior::smk_interior_cell_encode(
-        divider,
-        child,
-        &mut out[..n],
-        &mut answer,
-    );
-    write_agrees(sound, text, before, code, &answer, &out)
+// divider, child page, out
+fn interior_encode(mut fields: Fields<'_>) -> Result<(), Fault> {
+    let divider = fields.signed();
+    let child = fields.page_number()?;
+    fields.written(|out, answer| smk_interior_cell_encode(divider, child, out, answer))
 }

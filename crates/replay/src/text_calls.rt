@@ -1,32 +1,24 @@
-// The calls of data/utf8.txt.
-use crate::answers::{ROOM, code_agrees};
-use crate::fields::{field, fill};
-use crate::print;
+// The calls of data/utf8.txt, in the order of rust/differential/src/utf8.rs.
+use crate::answers::ROOM;
+use crate::calls::{Layer, Replay};
+use crate::fault::Fault;
+use crate::fields::Fields;
+use seremonek::text::smk_utf8_check;
 use std::io;
 
-// Numbered from 1 on, in the order of rust/differential/src/utf8.rs.
-pub const CALLS: usize = 1;
+pub struct Utf8;
 
-pub fn print_name(rt: &impl Print, call: usize) -> io::Result<()> {
-    match call {
-        1 => print::text(rt, "smk_utf8_check"),
-        _ => print::text(rt, "unknown"),
-    }
-}
+impl Layer for Utf8 {
+    const FILE: &'static str = "utf8.txt";
 
-// The recorded call on the line at `line`, made again: does the answer agree?
-pub fn replayed(call: usize, text: &[u8], line: usize) -> bool {
-    match call {
-        1 => utf8_check(text, line),
-        _ => false,
+    fn calls<R: Print>(replay: &mut Replay<'_, R>) -> io::Result<()> {
+        replay.call("smk_utf8_check", utf8_check)
     }
 }
 
 // bytes
-fn utf8_check(text: &[u8], line: usize) -> bool {
-    let mut bytes = [0u8; ROOM];
-    let mut sound = true;
-    let n = fill(text, field(text, line, 1), &mut bytes, &mut sound);
-    let code = seremonek::text::smk_utf8_check(&bytes[..n]);
-    sound && code_agrees(text, line, 2, code)
+fn utf8_check(mut fields: Fields<'_>) -> Result<(), Fault> {
+    let mut room = [0u8; ROOM];
+    let bytes = fields.bytes(&mut room)?;
+    fields.answered(|_: &mut [u64; 0]| smk_utf8_check(bytes))
 }

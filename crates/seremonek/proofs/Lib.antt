@@ -1,6 +1,1 @@
-pub mod Words
-pub mod Numbers
-pub mod Texts
-pub mod Entries
-pub mod References
-pub mod InteriorCells
+pub mod Writes

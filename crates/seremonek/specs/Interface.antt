@@ -6,35 +6,35 @@ use Rattle.paper.specs.Answer.{Answer, gives, refuses, pick}
 use Rattle.cell.specs.Block.{Block, null, integer, real, bool, text, vector}
 
 -- the number returned: 0 where the call accepts
-unfoldable pub code_of : {A : Type 0} → Answer A → ℕ
+abbrev pub code_of : {A : Type 0} → Answer A → ℕ
 code_of (gives a) = 0
 code_of (refuses k) = k
 
 -- the answer array: the words of what is given; a refusal leaves the array as it was
-unfoldable pub answered : {A : Type 0} → (A → List ℕ) → Answer A → List ℕ → List ℕ
+abbrev pub answered : {A : Type 0} → (A → List ℕ) → Answer A → List ℕ → List ℕ
 answered words (gives a) old = words a
 answered words (refuses k) old = old
 
 -- ---- the words of each kind of answer, in order
 
-unfoldable pub one : ℕ → List ℕ
+abbrev pub one : ℕ → List ℕ
 one n = n ∷ []
 
-unfoldable pub two : ℕ × ℕ → List ℕ
+abbrev pub two : ℕ × ℕ → List ℕ
 two (a, b) = a ∷ b ∷ []
 
 -- a signed number is its 64-bit pattern
-unfoldable pub signed_one : ℤ → List ℕ
+abbrev pub signed_one : ℤ → List ℕ
 signed_one z = of_z w64 z ∷ []
 
-unfoldable pub signed_two : ℤ × ℕ → List ℕ
+abbrev pub signed_two : ℤ × ℕ → List ℕ
 signed_two (z, n) = of_z w64 z ∷ n ∷ []
 
-unfoldable pub signed_three : ℤ × ℕ × ℕ → List ℕ
+abbrev pub signed_three : ℤ × ℕ × ℕ → List ℕ
 signed_three (z, m, n) = of_z w64 z ∷ m ∷ n ∷ []
 
 -- a column's value: its kind, which is the tag, or 255 for a null; its word; and the place of a text's or a vector's bytes
-unfoldable pub value_three : Block → List ℕ
+abbrev pub value_three : Block → List ℕ
 value_three null = 255 ∷ 0 ∷ 0 ∷ []
 value_three (integer v) = 0 ∷ of_z w64 v ∷ 0 ∷ []
 value_three (real f bits) = 1 ∷ bits ∷ 0 ∷ []

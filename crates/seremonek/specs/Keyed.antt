@@ -5,14 +5,14 @@ use Rattle.std.proofs.Common.{of_z}
 use Rattle.overflow.specs.Paged.{Paged, local, overflow}
 
 -- rowid, total, first page, bytes
-unfoldable pub reference_words : (ℤ × ℕ × ℕ) × ℕ → List ℕ
+abbrev pub reference_words : (ℤ × ℕ × ℕ) × ℕ → List ℕ
 reference_words ((rowid, total, page), n) = of_z w64 rowid ∷ total ∷ page ∷ n ∷ []
 
 -- kind, rowid, columns or total, 0 or first page, bytes
-unfoldable pub paged_words : Paged → List ℕ
+abbrev pub paged_words : Paged → List ℕ
 paged_words (local rowid columns n) = 1 ∷ of_z w64 rowid ∷ columns ∷ 0 ∷ n ∷ []
 paged_words (overflow rowid total page n) = 2 ∷ of_z w64 rowid ∷ total ∷ page ∷ n ∷ []
 
 -- divider, child, bytes
-unfoldable pub interior_words : (ℤ × ℕ) × ℕ → List ℕ
+abbrev pub interior_words : (ℤ × ℕ) × ℕ → List ℕ
 interior_words ((divider, child), n) = of_z w64 divider ∷ child ∷ n ∷ []

@@ -5,29 +5,19 @@ ghost use Rattle.interior_page.specs.InteriorCells.{interior_from, write_interio
 ghost use Rattle.seremonek.specs.Interface.{code_of, answered, one};
 ghost use Rattle.seremonek.specs.Keyed.{interior_words};
 
-use crate::inner::answer_size;
-use interior_page::{DecodedInterior, InteriorCell};
+use crate::inner::reply;
+use interior_page::InteriorCell;
 
 // divider, child, bytes
 pub fn smk_interior_cell_decode(buf: &[u8], pos: usize, answer: &mut [u64; 3]) -> u32
     ensures value { result ≡ code_of (interior_from (drop pos buf.now)) }
     ensures answer_after { answer.new ≡ answered interior_words (interior_from (drop pos buf.now)) answer.old }
 {
-    let decoded = interior_page::decode(buf, pos);
-    match decoded {
-        DecodedInterior::Cell(cell, bytes) => {
-            *answer = [
-                varint::pattern(cell.divider_rowid),
-                cell.child_page as u64,
-                bytes as u64,
-            ];
-            0
-        }
-        DecodedInterior::Refused(number) => number as u32,
-    }
+    reply(interior_page::decode(buf, pos), answer)
 }
 
 // bytes
+#[tactic(auto, using(crate::proofs::Writes::size_code))]
 pub fn smk_interior_cell_encode(
     divider: i64,
     child: u32,
@@ -42,6 +32,5 @@ pub fn smk_interior_cell_encode(
         divider_rowid: divider,
         child_page: child,
     };
-    let wrote = interior_page::encode(cell, out);
-    answer_size(wrote, answer)
+    reply(interior_page::encode(cell, out), answer)
 }

@@ -6,30 +6,19 @@ ghost use Rattle.overflow.specs.Paged.{paged_from};
 ghost use Rattle.seremonek.specs.Interface.{code_of, answered, one};
 ghost use Rattle.seremonek.specs.Keyed.{reference_words, paged_words};
 
-use crate::inner::answer_size;
-use overflow::{DecodedRef, OverflowRef, PagedEntry};
+use crate::inner::reply;
+use overflow::OverflowRef;
 
 // rowid, total, first page, bytes
 pub fn smk_overflow_decode(buf: &[u8], pos: usize, answer: &mut [u64; 4]) -> u32
     ensures value { result ≡ code_of (reference_from (drop pos buf.now)) }
     ensures answer_after { answer.new ≡ answered reference_words (reference_from (drop pos buf.now)) answer.old }
 {
-    let decoded = overflow::decode(buf, pos);
-    match decoded {
-        DecodedRef::Reference(reference, bytes) => {
-            *answer = [
-                varint::pattern(reference.rowid),
-                reference.total_body_len,
-                reference.first_overflow_page as u64,
-                bytes as u64,
-            ];
-            0
-        }
-        DecodedRef::Refused(number) => number as u32,
-    }
+    reply(overflow::decode(buf, pos), answer)
 }
 
 // bytes
+#[tactic(auto, using(crate::proofs::Writes::size_code))]
 pub fn smk_overflow_encode(
     rowid: i64,
     total: u64,
@@ -46,8 +35,7 @@ pub fn smk_overflow_encode(
         total_body_len: total,
         first_overflow_page: first,
     };
-    let wrote = overflow::encode(reference, out);
-    answer_size(wrote, answer)
+    reply(overflow::encode(reference, out), answer)
 }
 
 // kind, rowid, columns or total, 0 or first page, bytes
@@ -55,28 +43,5 @@ pub fn smk_entry_decode(buf: &[u8], pos: usize, answer: &mut [u64; 5]) -> u32
     ensures value { result ≡ code_of (paged_from (drop pos buf.now)) }
     ensures answer_after { answer.new ≡ answered paged_words (paged_from (drop pos buf.now)) answer.old }
 {
-    let entry = overflow::decode_paged(buf, pos);
-    match entry {
-        PagedEntry::Local(head) => {
-            *answer = [
-                1,
-                varint::pattern(head.rowid),
-                head.columns as u64,
-                0,
-                head.bytes as u64,
-            ];
-            0
-        }
-        PagedEntry::Overflow(reference, bytes) => {
-            *answer = [
-                2,
-                varint::pattern(reference.rowid),
-                reference.total_body_len,
-                reference.first_overflow_page as u64,
-                bytes as u64,
-            ];
-            0
-        }
-        PagedEntry::Refused(number) => number as u32,
-    }
+    reply(overflow::decode_paged(buf, pos), answer)
 }

@@ -1,6 +1,7 @@
 -- The test `well_formed` is the statement `OfRows`: a byte string passes exactly if it is a sequence of the table's rows.
 -- Assumes nothing.
-use Prim.Native.Nat.{ℕ, suc, ◌≤◌}
+use Prim.Native.Nat.{ℕ, suc, ◌≤◌, ◌<◌}
+use native.Mathlib.Nat.{not-suc-le-zero, le_of_suc-le-suc}
 use native.Mathlib.Omega.{arith}
 use mathlib.Core.Path.{◌≡◌, refl, sym, ap, subst, ◌∙◌}
 use mathlib.Core.Bool.{true, false}
@@ -9,11 +10,32 @@ use mathlib.Core.List.{List, [], ◌∷◌, ◌++◌, Memᴰ}
 use mathlib.Core.Logic.{◌⊎◌, inl, inr, ◌↔◌}
 use mathlib.Core.Option.{Option, none, some}
 use lib.Dec.{leb}
+use lib.ListN.{length, get_or}
 use borrow.Author.Tests.{le-leb, leb-true}
 use Rattle.paper.specs.Answer.{pick}
 use Rattle.utf8.specs.Table.{Range, ◌‥◌, Row, table}
 use Rattle.utf8.specs.WellFormed.{In, Fits, done, byte, OfRows, end, row, inside, begun, after, whole, completes, well_formed}
 use Rattle.utf8.proofs.Cases.{by_test, never}
+
+-- ---- lists of rows
+
+pub nth : {A : Type 0} (d : A) (l : List A) (k : ℕ) → k < length l → Memᴰ (get_or l k d) l
+nth d [] k h = absurd (not-suc-le-zero h)
+nth d (a ∷ l) ℕ.zero h = Memᴰ.head refl
+nth d (a ∷ l) (suc k) h = Memᴰ.tail (nth d l k (le_of_suc-le-suc h))
+
+-- what holds of each row that is listed holds of a row of the list
+abbrev pub Each : (Row → Type 0) → List Row → Type 0
+Each P [] = Unit {0}
+Each P (r ∷ rows) = P r × Each P rows
+
+pub each : (P : Row → Type 0) (rows : List Row) → Each P rows → (r : Row) → Memᴰ r rows → P r
+each P [] h r m = absurd (Memᴰ.not-nil m)
+each P (q ∷ rows) h r m = go (Memᴰ.cases_cons m) (each P rows h.1 r)
+  where
+    go : (r ≡ q) ⊎ Memᴰ r rows → (Memᴰ r rows → P r) → P r
+    go (inl e) f = subst P (sym e) h.0
+    go (inr n) f = f n
 
 -- ---- one byte and one range
 
@@ -80,7 +102,7 @@ later w = record { first = w.first; listed = Memᴰ.tail w.listed; holds = w.hol
 
 begun_by : (rows : List Row) (b : ℕ) (rs : Row) → begun rows b ≡ some rs → Begun rows b rs
 unfolding begun pick
-begun_by [] b rs e = absurd (let z : ◌≡◌ {A = ℕ} 0 1 = cc in omega arith)
+begun_by [] b rs e = cc
 begun_by ([] ∷ rows) b rs e = later (begun_by rows b rs e)
 begun_by ((r ∷ rs') ∷ rows) b rs e = by_test (inside r b) (λ i. here i (rw i at e)) (λ i. later (begun_by rows b rs (rw i at e)))
   where

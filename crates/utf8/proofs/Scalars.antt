@@ -2,12 +2,10 @@
 -- Assumes nothing.
 use Prim.Native.Nat.{ℕ, suc, ◌+◌, ◌-◌, ◌*◌, ◌/◌, ◌%◌, ◌≤◌, ◌<◌}
 use native.Mathlib.Omega.{arith}
-use native.Mathlib.Nat.{not-suc-le-zero, le_of_suc-le-suc}
 use mathlib.Core.Path.{◌≡◌, refl, sym, ap, subst, ◌∙◌}
 use mathlib.Core.Bool.{true}
-use mathlib.Core.List.Memᴰ
-use mathlib.Core.List.{List, [], ◌∷◌, ◌++◌, Memᴰ, append-nil}
-use mathlib.Core.Logic.{◌⊎◌, inl, inr, ◌↔◌}
+use mathlib.Core.List.{List, [], ◌∷◌, ◌++◌, append-nil}
+use mathlib.Core.Logic.{inl, inr, ◌↔◌}
 use lib.Dec.{ltb, lit<}
 use lib.ListN.{length, get_or}
 use lib.Seq.{append_snoc}
@@ -16,7 +14,7 @@ use Rattle.paper.specs.Answer.{pick}
 use Rattle.utf8.specs.Table.{◌‥◌, Row, table}
 use Rattle.utf8.specs.WellFormed.{In, Fits, done, byte, OfRows, end, row, well_formed}
 use Rattle.utf8.specs.Scalar.{Scalar, Scalars, bytes_of, encode}
-use Rattle.utf8.proofs.Rows.{rows_pass, passes_rows}
+use Rattle.utf8.proofs.Rows.{nth, Each, each, rows_pass, passes_rows}
 use Rattle.utf8.proofs.Cases.{by_order}
 
 -- ---- Table 3-6, line by line
@@ -38,11 +36,6 @@ unfolding bytes_of pick
 bytes_4 v l = rw (le-ltb v 0x80 (omega arith), le-ltb v 0x800 (omega arith), le-ltb v 0x10000 l)
 
 -- ---- an encoding is a sequence of rows
-
-nth : {A : Type 0} (d : A) (l : List A) (k : ℕ) → k < length l → Memᴰ (get_or l k d) l
-nth d [] k h = absurd (not-suc-le-zero h)
-nth d (a ∷ l) ℕ.zero h = Memᴰ.head refl
-nth d (a ∷ l) (suc k) h = Memᴰ.tail (nth d l k (le_of_suc-le-suc h))
 
 -- `Fits` of a row and bytes that are written out, as one product of bounds
 abbrev Held : Row → List ℕ → Type 0
@@ -117,19 +110,6 @@ spells_4 a b c d v e l m h =
     let ec : 0x80 + v / 64 % 64 ≡ c = omega arith in
     let ed : 0x80 + v % 64 ≡ d = omega arith in
     record { value = v; scalar = inr (omega arith); spells = bytes_4 v l ∙ cc }
-
--- what holds of each row that is listed holds of a row of the list
-abbrev Each : (Row → Type 0) → List Row → Type 0
-Each P [] = Unit {0}
-Each P (r ∷ rows) = P r × Each P rows
-
-each : (P : Row → Type 0) (rows : List Row) → Each P rows → (r : Row) → Memᴰ r rows → P r
-each P [] h r m = absurd (Memᴰ.not-nil m)
-each P (q ∷ rows) h r m = go (Memᴰ.cases_cons m) (each P rows h.1 r)
-  where
-    go : (r ≡ q) ⊎ Memᴰ r rows → (Memᴰ r rows → P r) → P r
-    go (inl e) f = subst P (sym e) h.0
-    go (inr n) f = f n
 
 -- byte after byte of a row, with its bound, the bytes p before them
 abbrev Read : Row → List ℕ → Type 0

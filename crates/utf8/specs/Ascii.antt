@@ -1,10 +1,5 @@
--- Words of ASCII, eight bytes at a time. Nothing of this is promised to callers.
-use Rattle.std.specs.Prelude.{ℕ, ◌≤◌, ◌<◌, ◌≡◌, List, length, get_or, drop}
-use Rattle.utf8.specs.WellFormed.{well_formed}
-
--- the first n bytes
-abbrev pub Ascii : ℕ → List ℕ → Type 0
-Ascii n s = (i : ℕ) → i < n → get_or s i 0 < 0x80
+-- ASCII at the start of a text.
+use Rattle.std.specs.Prelude.{ℕ, ◌≤◌, ◌<◌, ◌≡◌, List, ◌++◌, length, get_or, IsAscii}
 
 -- all between two places of a text
 pub record Plain (s : List ℕ) (from to : ℕ) : Type 0 where
@@ -12,8 +7,8 @@ pub record Plain (s : List ℕ) (from to : ℕ) : Type 0 where
   pub inside : to ≤ length s
   pub ascii : (i : ℕ) → from ≤ i → i < to → get_or s i 0 < 0x80
 
--- what stands between two places of a text does not matter to what follows
-pub record Passed (s : List ℕ) (from to : ℕ) : Type 0 where
-  pub ahead : from ≤ to
-  pub inside : to ≤ length s
-  pub same : well_formed (drop to s) ≡ well_formed (drop from s)
+-- s is ASCII, and then the rest
+pub record Past (s rest : List ℕ) : Type 0 where
+  pub passed : List ℕ
+  pub ascii : IsAscii passed
+  pub split : passed ++ rest ≡ s

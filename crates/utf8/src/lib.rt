@@ -6,36 +6,33 @@ pub mod inner;
 pub mod plain;
 
 ghost use Rattle.std.specs.Prelude.{◌≡◌};
-ghost use Rattle.utf8.specs.Checked.{paper_checked};
+ghost use Rattle.paper.specs.Answer.{answer_of};
 ghost use Rattle.utf8.specs.WellFormed.{check_text, check_at};
 
-#[derive(Clone, Copy)]
-pub enum Checked {
-    Text,
-    Refused(u8),
-}
+use paper::Refusal;
 
-// Text, or refusal 8: the quick form.
-pub fn check(bytes: &[u8]) -> Checked
-    ensures { paper_checked result ≡ check_text bytes.now }
+// Text, or NotUtf8: the quick form.
+#[tactic(auto, unfolding(crate::specs::WellFormed::check_text, paper::specs::Answer::pick))]
+pub fn check(bytes: &[u8]) -> Result<(), Refusal>
+    ensures { answer_of result ≡ check_text bytes.now }
 {
     if inner::accepted(bytes) {
-        Checked::Text
+        Ok(())
     } else {
-        Checked::Refused(8)
+        Err(Refusal::NotUtf8)
     }
 }
 
-// The len bytes from place at. Refusal 7 where they do not all lie inside, whatever at + len comes to.
-pub fn check_at(buf: &[u8], at: usize, len: usize) -> Checked
-    ensures { paper_checked result ≡ check_at buf.now at len }
+// The len bytes from place at. ValueCutShort where they do not all lie inside, whatever at + len comes to.
+#[tactic(auto, using(crate::proofs::Laws::at_outside))]
+pub fn check_at(buf: &[u8], at: usize, len: usize) -> Result<(), Refusal>
+    ensures { answer_of result ≡ check_at buf.now at len }
 {
-    if buf.len() < at {
-        return Checked::Refused(7);
-    }
-    if buf.len() - at < len {
-        return Checked::Refused(7);
-    }
-    let end = at + len;
-    check(&buf[at..end])
+    let Some(behind) = buf.get(at..) else {
+        return Err(Refusal::ValueCutShort);
+    };
+    let Some(bytes) = behind.get(..len) else {
+        return Err(Refusal::ValueCutShort);
+    };
+    check(bytes)
 }

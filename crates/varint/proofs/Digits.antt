@@ -3,7 +3,6 @@
 use Rattle.std.proofs.Common.{◌≡◌, ℕ, zero, suc, ◌+◌, ◌-◌, ◌*◌, ◌/◌, ◌^◌, ◌<◌, ◌≤◌, Bool, true, false, ltb, refl, ◌∙◌, le_trans, lt_of_lt_of_le, pow-suc, arith, pow_mono, w64, Fits, ltb-false, ltb-true}
 use lib.Bits.{bit_or, or_step, or_zero_r}
 use lib.Count.{count_leading_zeros, leading_le, leading_top}
-use Rattle.paper.proofs.Laws.{paper}
 use Rattle.varint.specs.Leb.{len_u64}
 use Rattle.varint.proofs.Limits.{Passed, passed_none, passed_last, passed_more, passed_all}
 
@@ -46,12 +45,6 @@ module _ (v j : ℕ) (low : 2 ^ j ≤ v / 2 * 2 + 1) where
 
 -- what the count of leading zeros makes of it
 module _ (v : ℕ) where
-  pub zeros_most : count_leading_zeros 64 (bit_or v 1) ≤ 64
-  zeros_most = leading_le 64 (bit_or v 1)
-
-  pub zeros_fit : Fits w64 (count_leading_zeros 64 (bit_or v 1))
-  zeros_fit = record { fits = omega (arith, zeros_most) }
-
   pub by_digits : Fits w64 v → (9 * (64 - count_leading_zeros 64 (bit_or v 1)) + 64) / 64 ≡ len_u64 v
   by_digits f =
       let h : v < 2 ^ 64 = f.fits in
@@ -59,4 +52,4 @@ module _ (v : ℕ) where
       let q : (9 * (64 - count_leading_zeros 64 (v / 2 * 2 + 1)) + 64) / 64 ≡ j / 7 + 1 = omega arith in
       rw (odd v) (q ∙ groups_of_seven v j low high (omega arith))
 
-pub ruleset digits = (paper, zeros_most, zeros_fit, by_digits)
+pub ruleset digits = (leading_le, by_digits)

@@ -7,6 +7,5 @@ pub mod Signed
 pub mod Laws
 pub mod Standard
 pub mod Zigzag
-pub mod Exact
 pub mod Places
 pub mod Words

@@ -1,7 +1,6 @@
 -- The table of nine limits has one rule, and the length of a number goes by it.
 -- Assumes nothing.
 use Rattle.std.proofs.Common.{◌≡◌, ℕ, zero, suc, ◌+◌, ◌-◌, ◌*◌, ◌/◌, ◌%◌, ◌^◌, ◌<◌, ◌≤◌, Bool, true, false, ltb, List, [], ◌∷◌, length, get_or, sym, refl, suc-le-suc, zero-le, le_of_suc-le-suc, not-suc-le-zero, div-lt_iff_lt-mul, le-div_iff_mul-le, zero-add, div-one, arith, pow_pos, pow-add, shr-shr, le-ltb, lt-ltb}
-use Rattle.paper.proofs.Laws.{paper}
 use Rattle.paper.specs.Answer.{pick}
 use Rattle.varint.specs.Leb.{groups, leb_bytes, len_u64}
 
@@ -17,6 +16,10 @@ limit_at zero i (suc n) h = let e : i + 1 ≡ i + 0 + 1 = omega arith in rw e
 limit_at (suc k) i (suc n) h =
     let e : i + suc k + 1 ≡ i + 1 + k + 1 = omega arith in
     rw e (limit_at k (i + 1) n (le_of_suc-le-suc h))
+
+-- the rule of the code's table
+pub table_limit : (table : List ℕ) → table ≡ limits_from 0 9 → (k : ℕ) → k < 9 → get_or table k 0 ≡ 2 ^ (7 * (k + 1))
+table_limit table is k h = rw (is, limit_at k 0 9 h, zero-add k)
 
 -- ---- groups of seven bits
 pub groups_last : (n v : ℕ) → v < 128 → groups (suc n) v ≡ v ∷ []
@@ -83,16 +86,8 @@ module _ {v n l : ℕ} (p : Passed v n) (t : n < 9) (e : l ≡ 2 ^ (7 * (n + 1))
       = rw (f, groups_more (10 - (n + 1)) (v / 2 ^ (7 * n)) g, d) at (sym p.same) in
       record { most = omega arith; same = omega arith }
 
-pub passed_one : (v : ℕ) {l : ℕ} → l ≡ 2 ^ (7 * (0 + 1)) → v < l → 1 ≡ len_u64 v
-passed_one v e h = passed_last (passed_none v) (omega arith) e h
-
-pub passed_first : (v : ℕ) {l : ℕ} → l ≡ 2 ^ (7 * (0 + 1)) → l ≤ v → Passed v 1
-passed_first v e h = passed_more (passed_none v) (omega arith) e h
-
 pub passed_all : {v n : ℕ} → Passed v n → 9 ≤ n → 10 ≡ len_u64 v
 passed_all {v} {n} p h =
     let l : n ≤ 9 = p.most in
     let e : n ≡ 9 = omega arith in
     rw (e, groups_one (v / 2 ^ 63)) at p.same
-
-pub ruleset limits = (paper, passed_one, passed_first, passed_last, passed_more, passed_all)

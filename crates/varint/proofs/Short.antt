@@ -1,23 +1,22 @@
 -- A number of at most three bytes, written by three stores.
 -- Assumes nothing.
-use Rattle.std.proofs.Common.{◌≡◌, ℕ, ◌+◌, ◌*◌, ◌/◌, ◌%◌, ◌^◌, ◌<◌, ◌≤◌, Bool, true, false, ltb, List, length, set, refl, div-one, arith, length-set, set-set, w8, Fits, ltb-false, ltb-true}
-use Rattle.paper.proofs.Laws.{paper}
-use Rattle.paper.specs.Answer.{pick, over}
+use Rattle.std.proofs.Common.{◌≡◌, ℕ, ◌+◌, ◌*◌, ◌/◌, ◌%◌, ◌^◌, ◌<◌, ◌≤◌, Bool, true, false, leb, List, length, set, refl, div-one, arith, length-set, set-set, w8, Fits, leb-false, leb-true}
+use Rattle.std.specs.Int.{from_bool}
+use Rattle.paper.specs.Answer.{over}
 use Rattle.varint.specs.Leb.{leb_bytes, len_u64}
 use Rattle.varint.proofs.Writing.{Filling, filling_start, filling_more, filling_count, filling_done}
 
 module _ (value : ℕ) (P : ℕ → ℕ → Type 0) (one : value < 128 → P 0 0) (two : 128 ≤ value → value < 16384 → P 1 1) (three : 16384 ≤ value → P 1 2) where
-  by_length : (s t : Bool) → ltb value 128 ≡ s → ltb value 16384 ≡ t → P (pick s 0 1) (pick s 0 1 + pick t 0 1)
-  unfolding pick
-  by_length true true e f = one (ltb-true value 128 e)
-  by_length true false e f = absurd (let l : value < 128 = ltb-true value 128 e in let g : 16384 ≤ value = ltb-false value 16384 f in omega arith)
-  by_length false true e f = two (ltb-false value 128 e) (ltb-true value 16384 f)
-  by_length false false e f = three (ltb-false value 16384 f)
+  by_length : (s t : Bool) → leb 128 value ≡ s → leb 16384 value ≡ t → P (from_bool s) (from_bool s + from_bool t)
+  by_length true true e f = three (leb-true 16384 value f)
+  by_length true false e f = two (leb-true 128 value e) (leb-false 16384 value f)
+  by_length false true e f = absurd (let l : value < 128 = leb-false 128 value e in let g : 16384 ≤ value = leb-true 16384 value f in omega arith)
+  by_length false false e f = one (leb-false 128 value e)
 
 -- the place of the second byte, and how far the last is from it
-module _ (value : ℕ) {m k : ℕ} (em : m ≡ pick (ltb value 128) 0 1) (ek : k ≡ pick (ltb value 16384) 0 1) where
+module _ (value : ℕ) {m k : ℕ} (em : m ≡ from_bool (leb 128 value)) (ek : k ≡ from_bool (leb 16384 value)) where
   so : (P : ℕ → ℕ → Type 0) → (value < 128 → P 0 0) → (128 ≤ value → value < 16384 → P 1 1) → (16384 ≤ value → P 1 2) → P m (m + k)
-  so P one two three = rw (em, ek) (by_length value P one two three (ltb value 128) (ltb value 16384) refl refl)
+  so P one two three = rw (em, ek) (by_length value P one two three (leb 128 value) (leb 16384 value) refl refl)
 
   module _ (small : value < 2 ^ 21) where
     pub short_byte : Fits w8 (value / 2 ^ (7 * (m + k)))
@@ -37,9 +36,6 @@ module _ (value : ℕ) {m k : ℕ} (em : m ≡ pick (ltb value 128) 0 1) (ek : k
           (λ a b. filling_count (filling_more begun a) (omega arith))
           (λ a. filling_count (filling_more (filling_more begun (omega arith)) (omega arith)) (omega arith))
 
-      pub short_first : 0 < length out
-      short_first = omega (arith, short_count)
-
       pub short_second : (a : ℕ) → m < length (set out 0 a)
       short_second a = rw (length-set out 0 a) (omega (arith, short_count))
 
@@ -55,4 +51,4 @@ module _ (value : ℕ) {m k : ℕ} (em : m ≡ pick (ltb value 128) 0 1) (ek : k
           let e : value / 16384 ≡ value / 128 / 128 = omega arith in
           rw e (filling_done (filling_more (filling_more begun (omega arith)) (omega arith)) (omega arith)))
 
-pub ruleset short = (paper, short_byte, short_count, short_first, short_second, short_last, short_done)
+pub ruleset short = (short_byte, short_count, short_second, short_last, short_done)

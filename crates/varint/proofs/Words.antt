@@ -1,15 +1,13 @@
 -- A number in a word of eight bytes: the first byte with its high bit clear ends it, and the groups of seven bits up to there, with
 -- the gaps between them closed, are its value.
 -- Assumes nothing.
-use Rattle.std.proofs.Common.{◌≡◌, ℕ, zero, suc, ◌+◌, ◌-◌, ◌*◌, ◌/◌, ◌%◌, ◌^◌, ◌<◌, ◌≤◌, Bool, true, false, ltb, List, [], ◌∷◌, length, get_or, sym, refl, ap, ◌∙◌, suc-le-suc, zero-le, le_of_suc-le-suc, mod-eq_of_lt, arith, pow-add, w8, w64, Fits, ltb-false, ltb-true, le-ltb, lt-ltb, ne_eqb}
+use Rattle.std.proofs.Common.{◌≡◌, ℕ, zero, suc, ◌+◌, ◌-◌, ◌*◌, ◌/◌, ◌%◌, ◌^◌, ◌<◌, ◌≤◌, Bool, true, false, ltb, List, [], ◌∷◌, length, get_or, sym, refl, ap, ◌∙◌, suc-le-suc, zero-le, le_of_suc-le-suc, mod-eq_of_lt, arith, pow-add, w8, w64, Fits, ltb-false, ltb-true, le-ltb, lt-ltb, Some}
 use lib.Bits.{bit_and, and_zero_r, and_le_l, and_le_r, and_self, and_block, and_mask, and_high, shifted_half, shifted_even}
 use lib.Count.{count_trailing_zeros, trailing_le}
 use Rattle.paper.specs.Answer.{gives, and_then, pick}
-use Rattle.paper.proofs.Laws.{paper}
 use Rattle.field.specs.Field.{le}
 use Rattle.field.proofs.Laws.{le_drop}
 use Rattle.varint.specs.Leb.{taken, sum_from, read_from}
-use Rattle.varint.specs.Scan.{Found, scanned}
 use Rattle.varint.specs.Word.{groups_at, ClosesUp, InWord}
 
 -- ---- a word is a byte, and the word of the bytes behind it
@@ -202,15 +200,14 @@ sum_groups (suc n) i (b ∷ bs) l =
     = sum_groups n (i + 1) bs (le_of_suc-le-suc l) ∙ ap (λ (x : ℕ). groups_at 128 n 0 bs * x) (rw f (pow-add 2 7 (7 * i))) in
     rw (d, groups_cons 128 n 0 b bs) (omega arith)
 
-found_read : (s bs : List ℕ) {v : ℕ} → taken 10 s ≡ gives bs → 1 ≤ length bs → length bs ≤ 8 → v ≡ sum_from 0 bs → v < 2 ^ 64 → Found s v (length bs)
-unfolding scanned pick read_from and_then
-found_read s bs t o m e f =
-    record { same = rw (ne_eqb (length bs) 0 (omega arith), le-ltb 10 (length bs) (omega arith), t, ← e, mod-eq_of_lt f) }
+number_read : (s bs : List ℕ) {v : ℕ} → taken 10 s ≡ gives bs → v ≡ sum_from 0 bs → v < 2 ^ 64 → gives (v, length bs) ≡ read_from s
+unfolding read_from and_then
+number_read s bs t e f = rw (t, ← e, mod-eq_of_lt f)
 
 module _ (s : List ℕ) (f : Bytes s) (l : 8 ≤ length s) {w : ℕ} (e : w ≡ le 8 0 s) where
   pub word_found : {v : ℕ} → (bit_and (2 ^ 64 - 1 - w) 0x8080_8080_8080_8080 ≡ 0 → ⊥)
       → ClosesUp (kept_of w (bit_and (2 ^ 64 - 1 - w) 0x8080_8080_8080_8080) 0x7F7F_7F7F_7F7F_7F7F) v → Fits w64 v
-      → InWord s v (count_trailing_zeros 64 (bit_and (2 ^ 64 - 1 - w) 0x8080_8080_8080_8080) / 8 + 1)
+      → InWord s (Some (v, count_trailing_zeros 64 (bit_and (2 ^ 64 - 1 - w) 0x8080_8080_8080_8080) / 8 + 1))
   unfolding ends marks
   word_found {v} h c k =
       let d : bit_and (2 ^ 64 - 1 - w) 0x8080_8080_8080_8080 ≡ ends 8 s = ap (λ (x : ℕ). bit_and (2 ^ 64 - 1 - x) 0x8080_8080_8080_8080) e in
@@ -220,15 +217,7 @@ module _ (s : List ℕ) (f : Bytes s) (l : 8 ≤ length s) {w : ℕ} (e : w ≡ 
       let o : v ≡ groups_at 128 8 0 r.bytes = c.same r.bytes (rw (d, e) r.kept) in
       let g : v ≡ sum_from 0 r.bytes = o ∙ omega (arith, sum_groups 8 0 r.bytes r.most) in
       let q : v < 2 ^ 64 = k.fits in
-      let m : length r.bytes ≤ 8 = r.most in
-      rw (d, n)
-      (record {
-        most = m;
-        found = λ p. found_read s r.bytes (r.read 10 (omega arith)) (omega (arith, z)) m g q;
-      })
-
-pub word_open : (s : List ℕ) {v : ℕ} → InWord s v 0
-word_open s = record { most = zero-le; found = λ z. absurd (z refl) }
+      rw (d, n) (r.most, number_read s r.bytes (r.read 10 (omega arith)) g q)
 
 -- ---- the gaps between the groups
 and_odd : (j m k a b x y : ℕ) → b * 2 ^ j + a < 2 ^ k → 2 ^ (m + j) - 2 ^ j < 2 ^ k → (b * 2 ^ j + a) / 2 ^ j % 2 ^ m ≡ b
@@ -296,36 +285,4 @@ closes_up x = record { same = λ s e. rw e (bytes_close _ _ _ _ _ _ _ _ (low s 0
     low : (s : List ℕ) (i : ℕ) → get_or s i 0 % 128 < 128
     low s i = omega arith
 
--- ---- the code's numbers fit
-pub half_below : (x m : ℕ) → bit_and x m / 2 ≤ x
-half_below x m = let l = and_le_l x m in omega arith
-
-pub most_below : (x m : ℕ) → bit_and x m / 4 * 3 ≤ x
-most_below x m = let l = and_le_l x m in omega arith
-
-module _ (x : ℕ) (f : Fits w64 x) where
-  pub most_fits : (m : ℕ) → Fits w64 (bit_and (twos_of x) m / 4 * 3)
-  most_fits m =
-      let l = and_le_l (twos_of x) m in
-      let b = f.fits in
-      record { fits = omega arith }
-
-  fours_below : fours_of (twos_of x) < 2 ^ 64
-  fours_below =
-      let l = and_le_l (twos_of x) 0x3FFF_0000_3FFF_0000 in
-      let b = f.fits in
-      omega arith
-
-  pub upper_fits : Fits w64 (fours_of (twos_of x) / 0x1_0000_0000 * 0x1000_0000)
-  upper_fits = let l = fours_below in record { fits = omega arith }
-
-  pub eight_fits : Fits w64 (eight_of (fours_of (twos_of x)))
-  eight_fits = let l = fours_below in record { fits = omega arith }
-
-pub zeros_fit : (x : ℕ) → Fits w64 (count_trailing_zeros 64 x)
-zeros_fit x = record { fits = omega (arith, trailing_le 64 x) }
-
-pub zeros_bytes : (x : ℕ) → Fits w64 (count_trailing_zeros 64 x / 8 + 1)
-zeros_bytes x = record { fits = omega (arith, trailing_le 64 x) }
-
-pub ruleset words = (paper, half_below, most_below, most_fits, upper_fits, eight_fits, zeros_fit, zeros_bytes, closes_up, word_open, word_found)
+pub ruleset words = (and_le_l, trailing_le, closes_up, word_found)

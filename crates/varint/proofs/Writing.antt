@@ -1,13 +1,10 @@
 -- The loop that writes a number: what is left, stored from here on, fills the output as the answer does.
 -- Assumes nothing.
-use Rattle.std.proofs.Common.{◌≡◌, ℕ, suc, ◌+◌, ◌-◌, ◌*◌, ◌/◌, ◌%◌, ◌^◌, ◌<◌, ◌≤◌, List, [], ◌∷◌, ◌++◌, length, drop, set, sym, refl, ap, ◌∙◌, le_trans, zero-add, add-one, arith, length-set, shr_lt, le-ltb, lt-ltb}
+use Rattle.std.proofs.Common.{◌≡◌, ℕ, suc, ◌+◌, ◌-◌, ◌*◌, ◌/◌, ◌%◌, ◌^◌, ◌<◌, ◌≤◌, List, [], ◌∷◌, ◌++◌, length, drop, set, refl, ap, ◌∙◌, le_trans, zero-add, add-one, arith, length-set, shr_lt, le-ltb, lt-ltb}
 use lib.Arith.{lt_of_le-ne}
 use lib.Seq.{sets, sets-eq}
-use Rattle.paper.proofs.Laws.{paper}
-use Rattle.paper.specs.Answer.{pick, put, over, size_of}
+use Rattle.paper.specs.Answer.{gives, refuses, pick, put, over, size_of}
 use Rattle.varint.specs.Leb.{groups, leb_bytes, len_u64, write_u64}
-use Rattle.varint.specs.Paper.{paper_wrote}
-use Rattle.varint.specs.declared.Wrote.TheVariants as W
 use Rattle.varint.proofs.Limits.{groups_last, groups_more, groups_some, groups_most}
 
 pub record Filling (out₀ : List ℕ) (value : ℕ) (out : List ℕ) (v i : ℕ) : Type 0 where
@@ -76,40 +73,27 @@ module _ {out₀ out : List ℕ} {value v i : ℕ} (w : Filling out₀ value out
       let l : 0 + length (leb_bytes value) ≤ length out₀ = omega arith in
       f ∙ sets-eq (leb_bytes value) out₀ 0 l ∙ ap (λ (n : ℕ). leb_bytes value ++ drop n out₀) z
 
--- ---- an output with room for any number
-module _ (value room : ℕ) (h : 10 ≤ room) where
-  pub any_room : len_u64 value ≤ room
-  unfolding leb_bytes
-  any_room = le_trans (groups_most 10 value) h
+-- ---- the call, by the length of the number
+pub any_room : (value room : ℕ) → 10 ≤ room → len_u64 value ≤ room
+unfolding leb_bytes
+any_room value room h = le_trans (groups_most 10 value) h
 
-  pub any_size : {n : ℕ} → n ≡ len_u64 value → paper_wrote (W.Bytes n) ≡ size_of (write_u64 value room)
-  unfolding paper_wrote size_of write_u64 pick
-  any_size e = rw (e, le-ltb room (len_u64 value) any_room)
+module _ (value room : ℕ) where
+  pub refused_size : room < len_u64 value → refuses 16 ≡ size_of (write_u64 value room)
+  unfolding size_of write_u64 pick
+  refused_size h = rw (lt-ltb room (len_u64 value) h)
 
-  pub any_output : (out : List ℕ) {new : List ℕ} → new ≡ over out (leb_bytes value) → new ≡ put out (write_u64 value room)
+  pub refused_output : room < len_u64 value → (out : List ℕ) → out ≡ put out (write_u64 value room)
   unfolding put write_u64 pick
-  any_output out d = rw (le-ltb room (len_u64 value) any_room) d
+  refused_output h out = rw (lt-ltb room (len_u64 value) h)
 
--- ---- the call, by the length that the code asked for
-module _ (value room : ℕ) {l : ℕ} (e : l ≡ len_u64 value) where
-  pub refused_size : room < l → paper_wrote (W.Refused 16) ≡ size_of (write_u64 value room)
-  unfolding paper_wrote size_of write_u64 pick
-  refused_size h = rw (lt-ltb room (len_u64 value) (rw e at h))
+  pub accepted_size : len_u64 value ≤ room → {n : ℕ} → n ≡ len_u64 value → gives n ≡ size_of (write_u64 value room)
+  unfolding size_of write_u64 pick
+  accepted_size h d = rw (d, le-ltb room (len_u64 value) h)
 
-  pub refused_output : room < l → (out : List ℕ) → out ≡ put out (write_u64 value room)
+  pub accepted_output : len_u64 value ≤ room → (out : List ℕ) {new : List ℕ} → new ≡ over out (leb_bytes value) → new ≡ put out (write_u64 value room)
   unfolding put write_u64 pick
-  refused_output h out = rw (lt-ltb room (len_u64 value) (rw e at h))
-
-  pub has_room : l ≤ room → len_u64 value ≤ room
-  has_room h = rw e at h
-
-  pub accepted_output : l ≤ room → (out : List ℕ) {new : List ℕ} → new ≡ over out (leb_bytes value) → new ≡ put out (write_u64 value room)
-  unfolding put write_u64 pick
-  accepted_output h out d = rw (le-ltb room (len_u64 value) (has_room h)) d
-
-  pub accepted_size : {n : ℕ} → n ≡ len_u64 value → l ≤ room → paper_wrote (W.Bytes n) ≡ size_of (write_u64 value room)
-  unfolding paper_wrote size_of write_u64 pick
-  accepted_size d h = rw (d, le-ltb room (len_u64 value) (has_room h))
+  accepted_output h out d = rw (le-ltb room (len_u64 value) h) d
 
 -- ---- one byte
 module _ (value : ℕ) (h : value < 128) where
@@ -117,39 +101,14 @@ module _ (value : ℕ) (h : value < 128) where
   unfolding leb_bytes
   one_byte = groups_last 9 value h
 
-  pub byte_refused_size : (out : List ℕ) → length out ≡ 0 → paper_wrote (W.Refused 16) ≡ size_of (write_u64 value (length out))
-  byte_refused_size out z = refused_size value (length out) refl (rw one_byte (omega arith))
+  pub one_long : len_u64 value ≡ 1
+  one_long = ap length one_byte
 
-  pub byte_refused_output : (out : List ℕ) → length out ≡ 0 → out ≡ put out (write_u64 value (length out))
-  byte_refused_output out z = refused_output value (length out) refl (rw one_byte (omega arith)) out
+  pub byte_output : (out : List ℕ) → 1 ≤ length out → set out 0 value ≡ put out (write_u64 value (length out))
+  byte_output out l =
+      let r : len_u64 value ≤ length out = rw one_byte l in
+      accepted_output value (length out) r out (filling_done (filling_start (omega arith) r) h)
 
-  module _ (out : List ℕ) (z : length out ≡ 0 → ⊥) where
-    byte_room : len_u64 value ≤ length out
-    byte_room = rw one_byte (omega arith)
+pub ruleset filling = (filling_start, filling_inside, filling_more, filling_count, filling_done)
 
-    pub byte_size : paper_wrote (W.Bytes 1) ≡ size_of (write_u64 value (length out))
-    byte_size = accepted_size value (length out) refl (sym (ap length one_byte)) byte_room
-
-    pub byte_output : set out 0 value ≡ put out (write_u64 value (length out))
-    byte_output = accepted_output value (length out) refl byte_room out (filling_done (filling_start (omega arith) byte_room) h)
-
-pub ruleset writing = (
-  paper,
-  filling_start,
-  filling_inside,
-  filling_more,
-  filling_count,
-  filling_done,
-  refused_size,
-  refused_output,
-  any_room,
-  any_size,
-  any_output,
-  has_room,
-  accepted_output,
-  accepted_size,
-  byte_refused_size,
-  byte_refused_output,
-  byte_size,
-  byte_output,
-)
+pub ruleset writing = (any_room, refused_size, refused_output, accepted_size, accepted_output, one_long, byte_output)

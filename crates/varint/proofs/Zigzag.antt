@@ -1,14 +1,14 @@
 -- ZigZag against the Protocol Buffers encoding page: "positive integers p are encoded as 2 * p, negative integers n as 2 * |n| - 1";
 -- a bijection between the signed and the unsigned 64-bit numbers.
 -- Assumes nothing.
-use Rattle.std.proofs.Common.{◌≡◌, ℕ, suc, ◌+◌, ◌*◌, ◌/◌, ◌%◌, ◌^◌, ◌<◌, Bool, true, false, eqb, List, ◌++◌, length, ℤ, pos, negsuc, ◌-ℤ◌, ◌*ℤ◌, neg_ℤ, sym, refl, arith, w64, SFits, eq-eqb, ne_eqb, eqb-true}
+use Rattle.std.proofs.Common.{◌≡◌, ℕ, suc, ◌+◌, ◌*◌, ◌/◌, ◌%◌, ◌^◌, ◌<◌, Bool, true, false, eqb, List, ◌++◌, length, ℤ, pos, negsuc, ◌-ℤ◌, ◌*ℤ◌, neg_ℤ, sym, refl, arith, w64, SFits, eqb-true}
 use lib.IntN.{neg_ℤ-neg_ℤ, -ℤ_one}
 use lib.Seq.{drop-append_seam}
 use borrow.Author.Tests.{eqb-false}
 use Rattle.paper.specs.Answer.{gives, and_then, pick}
 use Rattle.varint.specs.Leb.{read_u64, leb_bytes}
 use Rattle.varint.specs.Number.{read_i64, len_i64}
-use Rattle.varint.specs.Zigzag.{zigzag, unzigzag}
+use Rattle.varint.specs.Zigzag.{zigzag, unzigzag, undone}
 use Rattle.varint.proofs.Standard.{written_read}
 
 -- the two rules, as integers
@@ -24,15 +24,7 @@ below_zero n =
 
 -- each undoes the other
 pub back : (z : ℤ) → unzigzag (zigzag z) ≡ z
-unfolding zigzag unzigzag pick
-back (pos n) =
-    let e : 2 * n % 2 ≡ 0 = omega arith in
-    let h : 2 * n / 2 ≡ n = omega arith in
-    rw (eq-eqb (2 * n % 2) 0 e, h)
-back (negsuc n) =
-    let e : (2 * n + 1) % 2 ≡ 0 → ⊥ = omega arith in
-    let h : (2 * n + 1) / 2 ≡ n = omega arith in
-    rw (ne_eqb ((2 * n + 1) % 2) 0 e, h)
+back = undone
 
 pub forth : (u : ℕ) → zigzag (unzigzag u) ≡ u
 unfolding zigzag unzigzag pick

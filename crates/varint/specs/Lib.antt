@@ -2,6 +2,5 @@ pub mod Leb
 pub mod Standard
 pub mod Zigzag
 pub mod Number
-pub mod Paper
 pub mod Scan
 pub mod Word

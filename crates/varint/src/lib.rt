@@ -3,17 +3,14 @@
 // Variable-length integers: the port of varint.rs.
 //
 // Unsigned integers are LEB128, little-endian base 128: seven bits a byte, the high bit set while more bytes follow.
-// Signed integers are ZigZag and then LEB128. A read answers the value and the bytes taken, or a refusal's number.
-ghost use Rattle.std.specs.Prelude.{◌≡◌, ◌+◌, ◌*◌, ◌%◌, ◌^◌, ◌<◌, length};
-ghost use Rattle.std.specs.Int.{w64};
-ghost use Rattle.std.proofs.Common.{of_z};
-ghost use Rattle.paper.specs.Answer.{put, size_of};
-ghost use Rattle.varint.specs.Leb.{read_u64, write_u64, len_u64};
-ghost use Rattle.varint.specs.Zigzag.{zigzag, unzigzag};
-ghost use Rattle.varint.specs.Number.{read_i64, write_i64, len_i64};
-ghost use Rattle.varint.specs.Paper.{paper_u64, paper_i64, paper_wrote};
+// Signed integers are ZigZag and then LEB128. A read answers the value and the bytes taken, or a refusal.
+ghost use Rattle.std.specs.Prelude.{◌≡◌, ℕ, length, refl};
+ghost use Rattle.paper.specs.Answer.{answer_of, put, size_of};
+ghost use Rattle.varint.specs.Leb.{write_u64, len_u64};
+ghost use Rattle.varint.specs.Zigzag.{zigzag, unzigzag, undone};
+ghost use Rattle.varint.specs.Number.{read_as};
 
-use paper::inner::wide;
+use paper::Refusal;
 
 pub mod inner;
 
@@ -33,140 +30,110 @@ const LIMITS: [u64; 9] = [
     0x8000_0000_0000_0000,
 ];
 
-// The value and the bytes it took; or a refusal.
-#[derive(Clone, Copy)]
-pub enum ReadU64 {
-    Value(u64, usize),
-    Refused(u8),
+// The integers that have a varint, each by the unsigned number that LEB128 stores for it.
+pub trait Integer: Copy {
+    ghost encoded: { Self → ℕ };
+
+    ghost decoded: { ℕ → Self };
+
+    fn encode(self) -> u64
+        ensures { result ≡ encoded self };
+
+    fn decode(bits: u64) -> Self
+        ensures { result ≡ decoded bits };
+
+    ghost back: { (x : Self) → decoded (encoded x) ≡ x };
 }
 
-#[derive(Clone, Copy)]
-pub enum ReadI64 {
-    Value(i64, usize),
-    Refused(u8),
+// As it is.
+impl Integer for u64 {
+    ghost encoded = { λ x. x };
+
+    ghost decoded = { λ x. x };
+
+    ghost back = { λ x. refl };
+
+    fn encode(self) -> u64 {
+        self
+    }
+
+    fn decode(bits: u64) -> u64 {
+        bits
+    }
 }
 
-// How many bytes were written; or a refusal.
-#[derive(Clone, Copy)]
-pub enum Wrote {
-    Bytes(usize),
-    Refused(u8),
-}
+// By ZigZag.
+impl Integer for i64 {
+    ghost encoded = { zigzag };
 
-// A number of k + 1 bytes is below this; the table's one rule.
-fn limit(k: usize) -> u64
-    requires { k < 9 }
-    ensures { result ≡ 2 ^ (7 * (k + 1)) }
-{
-    LIMITS[k]
+    ghost decoded = { unzigzag };
+
+    ghost back = { undone };
+
+    fn encode(self) -> u64 {
+        zigzag_encode(self)
+    }
+
+    fn decode(bits: u64) -> i64 {
+        zigzag_decode(bits)
+    }
 }
 
 // Writes `value` in the fewest bytes; one byte is the common case. An output that is too short is refused and keeps every byte.
-pub fn write_u64(out: &mut [u8], value: u64) -> Wrote
-    ensures result_value { paper_wrote result ≡ size_of (write_u64 value (length out.old)) }
-    ensures out_after { out.new ≡ put out.old (write_u64 value (length out.old)) }
+#[tactic(auto, using(crate::proofs::Writing::writing))]
+pub fn write<N: Integer>(out: &mut [u8], value: N) -> Result<usize, Refusal>
+    ensures result_value { answer_of result ≡ size_of (write_u64 (N.encoded value) (length out.old)) }
+    ensures out_after { out.new ≡ put out.old (write_u64 (N.encoded value) (length out.old)) }
 {
-    if value < 128 {
-        if out.len() == 0 {
-            return Wrote::Refused(16);
-        }
-        out[0] = value as u8;
-        return Wrote::Bytes(1);
+    let bits = value.encode();
+    if bits < 128 {
+        *out.first_mut().ok_or(Refusal::OutputTooShort)? = bits as u8;
+        return Ok(1);
     }
     // Room for any number is seen at once; a shorter output is held to the number's own length.
-    if MAX_VARINT_BYTES <= out.len() {
-        return Wrote::Bytes(inner::put_u64(out, value));
+    if out.len() < MAX_VARINT_BYTES && out.len() < len(bits) {
+        return Err(Refusal::OutputTooShort);
     }
-    if out.len() < u64_len(value) {
-        return Wrote::Refused(16);
-    }
-    Wrote::Bytes(inner::put_u64(out, value))
+    Ok(inner::put_u64(out, bits))
 }
 
-// Writes `value` by ZigZag and LEB128.
-pub fn write_i64(out: &mut [u8], value: i64) -> Wrote
-    ensures result_value { paper_wrote result ≡ size_of (write_i64 value (length out.old)) }
-    ensures out_after { out.new ≡ put out.old (write_i64 value (length out.old)) }
+// Reads a number from `buf` at `pos`, which may be any number. One byte is the common case. It is laid out in its callers, since a pair
+// goes through memory at a call.
+#[inline(always)]
+#[tactic(auto, using(crate::proofs::Reading::places), unfolding(crate::specs::Number::read_as, paper::specs::Answer::and_then))]
+pub fn read<N: Integer>(buf: &[u8], pos: usize) -> Result<(N, usize), Refusal>
+    ensures { answer_of result ≡ read_as N.decoded buf.now pos }
 {
-    write_u64(out, zigzag_encode(value))
+    let first = *buf.get(pos).ok_or(Refusal::VarintPastEnd)?;
+    if first < 128 {
+        return Ok((N::decode(first as u64), 1));
+    }
+    let (bits, taken) = inner::scan(&buf[pos..], first as u64 % 128, 1)?;
+    Ok((N::decode(bits), taken))
 }
 
-// Reads a number from `buf` at `pos`, which may be any number.
-pub fn read_u64(buf: &[u8], pos: usize) -> ReadU64
-    ensures { paper_u64 result ≡ read_u64 buf.now pos }
+// The number of bytes that `write` writes for `value`.
+pub fn len<N: Integer>(value: N) -> usize
+    ensures { result ≡ len_u64 (N.encoded value) }
 {
-    if buf.len() <= pos {
-        return ReadU64::Refused(1);
-    }
-    let found = inner::scan(&buf[pos..], 0, 0);
-    if found.taken == 0 {
-        return ReadU64::Refused(1);
-    }
-    if 10 < found.taken {
-        return ReadU64::Refused(2);
-    }
-    ReadU64::Value(found.value, found.taken)
-}
-
-// Reads a signed number: LEB128, then ZigZag. One byte is the common case.
-pub fn read_i64(buf: &[u8], pos: usize) -> ReadI64
-    ensures { paper_i64 result ≡ read_i64 buf.now pos }
-{
-    if buf.len() <= pos {
-        return ReadI64::Refused(1);
-    }
-    let byte = buf[pos];
-    if byte < 128 {
-        return ReadI64::Value(zigzag_decode(wide(byte)), 1);
-    }
-    let found = inner::scan(&buf[pos..], wide(byte) % 128, 1);
-    if found.taken == 0 {
-        return ReadI64::Refused(1);
-    }
-    if 10 < found.taken {
-        return ReadI64::Refused(2);
-    }
-    ReadI64::Value(zigzag_decode(found.value), found.taken)
-}
-
-// The number of bytes that `write_u64` writes for `value`.
-pub fn u64_len(value: u64) -> usize
-    ensures { result ≡ len_u64 value }
-{
-    if value < limit(0) {
-        return 1;
-    }
-    let mut n: usize = 1;
-    while n < 9 {
-        if value < limit(n) {
+    let bits = value.encode();
+    for (n, limit) in LIMITS.iter().enumerate() {
+        if bits < *limit {
             return n + 1;
         }
-        n += 1;
     }
     MAX_VARINT_BYTES
 }
 
-// The same for `write_i64`.
-pub fn i64_len(value: i64) -> usize
-    ensures { result ≡ len_i64 value }
-{
-    u64_len(zigzag_encode(value))
-}
-
-// The 64-bit pattern of a signed number.
-pub fn pattern(v: i64) -> u64
-    ensures { result ≡ of_z w64 v }
-{
-    if v < 0 { !((!v) as u64) } else { v as u64 }
-}
-
 // 2v, or -2v - 1 below zero.
+#[tactic(auto, using(crate::proofs::Signed::of_pattern))]
 pub fn zigzag_encode(v: i64) -> u64
     ensures { result ≡ zigzag v }
 {
-    inner::zigzag_bits(pattern(v))
+    inner::zigzag_bits(v.cast_unsigned())
 }
 
+#[tactic(auto, using(crate::proofs::Signed::patterns))]
 pub fn zigzag_decode(v: u64) -> i64
     ensures { result ≡ unzigzag v }
 {

@@ -1,16 +1,16 @@
--- In both loops all before i is ASCII.
-use Rattle.std.proofs.Common.{◌-◌, length}
-use Rattle.utf8.specs.Ascii.{Plain}
+-- In both loops what was passed is ASCII.
+use Rattle.std.proofs.Common.{length}
+use Rattle.utf8.specs.Ascii.{Past}
 use Rattle.utf8.proofs.inner.past_ascii.Given as goal
 
-abbrev pub invariant-loop-i : goal.invariant-loop-i
-invariant-loop-i l = Plain l.s l.from l.i
+abbrev pub invariant-loop-words : goal.invariant-loop-words
+invariant-loop-words l = Past l.s l.rest
 
-abbrev pub decreases-loop-i : goal.decreases-loop-i
-decreases-loop-i l = length l.s - l.i
+abbrev pub decreases-loop-words : goal.decreases-loop-words
+decreases-loop-words l = length l.rest
 
-abbrev pub invariant-loop-i-2 : goal.invariant-loop-i-2
-invariant-loop-i-2 l = Plain l.s l.from l.i
+abbrev pub invariant-loop-word : goal.invariant-loop-word
+invariant-loop-word l = Past l.s l.rest
 
-abbrev pub decreases-loop-i-2 : goal.decreases-loop-i-2
-decreases-loop-i-2 l = length l.s - l.i
+abbrev pub decreases-loop-word : goal.decreases-loop-word
+decreases-loop-word l = length l.rest

@@ -1,7 +1,0 @@
--- `seremonek::entry::smk_cell_encoded_len` meets its contract. Assumes nothing.
-use Rattle.seremonek.proofs.Entries.{entries}
-use Rattle.seremonek.proofs.entry.smk_cell_encoded_len.Statement.{statement}
-use Rattle.seremonek.proofs.entry.smk_cell_encoded_len.Tie as tie
-
-pub smk_cell_encoded_len_spec : {M : Type 1} → statement M
-smk_cell_encoded_len_spec = tie.close (tie.spec (λ c κs. search entries) (λ c κs. search entries) (λ c. search entries))
