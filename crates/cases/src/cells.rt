@@ -7,8 +7,7 @@ use std::io;
 
 pub fn read(rt: &impl Print, bytes: &[u8]) -> io::Result<()> {
     print!(rt; "entry{}:", Hex(bytes))?;
-    show::answer(rt, cell::decode(bytes, 0), |head| head_shown(rt, head))?;
-    println!(rt;)
+    show::line(rt, cell::decode(bytes, 0), |head| head_shown(rt, head))
 }
 
 pub fn head_shown(rt: &impl Print, head: Head) -> io::Result<()> {
@@ -20,12 +19,11 @@ pub fn head_shown(rt: &impl Print, head: Head) -> io::Result<()> {
 
 pub fn column(rt: &impl Print, bytes: &[u8], column: usize) -> io::Result<()> {
     print!(rt; "column {column}:")?;
-    show::answer(
+    show::line(
         rt,
         cell::value::column_value(bytes, 0, column),
         |value| value_shown(rt, value),
-    )?;
-    println!(rt;)
+    )
 }
 
 fn value_shown(rt: &impl Print, value: Value) -> io::Result<()> {
@@ -69,7 +67,7 @@ pub fn write(rt: &impl Print, rowid: i64, list: List) -> io::Result<()> {
     show::written(rt, wrote, &out)
 }
 
-// The same to an output of four bytes, EE, with these bytes after the call.
+// The same to an output of four bytes, EE, with these bytes after the call. One function for both would take the words and the way to show it.
 pub fn write_to_four(rt: &impl Print, rowid: i64, list: List) -> io::Result<()> {
     let mut out = [0xEEu8; 4];
     let wrote = list.encode(rowid, &mut out);
@@ -80,30 +78,27 @@ pub fn write_to_four(rt: &impl Print, rowid: i64, list: List) -> io::Result<()> 
 
 pub fn kind(rt: &impl Print, bytes: &[u8]) -> io::Result<()> {
     print!(rt; "kind in{}:", Hex(bytes))?;
-    show::answer(
+    show::line(
         rt,
         cell::peek_kind(bytes, 0),
         |kind| print!(rt; " {kind:02X}"),
-    )?;
-    println!(rt;)
+    )
 }
 
 pub fn rowid(rt: &impl Print, bytes: &[u8]) -> io::Result<()> {
     print!(rt; "rowid in{}:", Hex(bytes))?;
-    show::answer(
+    show::line(
         rt,
         cell::peek_rowid(bytes, 0),
         |rowid| print!(rt; " {rowid}"),
-    )?;
-    println!(rt;)
+    )
 }
 
 pub fn size(rt: &impl Print, bytes: &[u8]) -> io::Result<()> {
     print!(rt; "size of{}:", Hex(bytes))?;
-    show::answer(
+    show::line(
         rt,
         cell::encoded_size_at(bytes, 0),
         |size| print!(rt; " {size}"),
-    )?;
-    println!(rt;)
+    )
 }

@@ -5,15 +5,14 @@ use std::io;
 
 pub fn read(rt: &impl Print, bytes: &[u8]) -> io::Result<()> {
     print!(rt; "interior cell{}:", Hex(bytes))?;
-    show::answer(
+    show::line(
         rt,
         interior_page::decode(bytes, 0),
         |(cell, taken)| print!(rt;
             " divider {}, child {}, bytes taken {taken}",
             cell.divider_rowid, cell.child_page
         ),
-    )?;
-    println!(rt;)
+    )
 }
 
 pub fn write(rt: &impl Print, divider: i64, child: u32, out: &mut [u8]) -> io::Result<()> {

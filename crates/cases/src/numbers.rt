@@ -6,10 +6,11 @@ use varint::Integer;
 
 pub fn read<N: Integer + Display>(rt: &impl Print, name: &str, bytes: &[u8]) -> io::Result<()> {
     print!(rt; "{name}{}:", Hex(bytes))?;
-    match varint::read::<N>(bytes, 0) {
-        Ok((value, taken)) => println!(rt; " {value}, bytes taken {taken}"),
-        Err(refusal) => println!(rt; " refused {}", refusal.number()),
-    }
+    show::line(
+        rt,
+        varint::read::<N>(bytes, 0),
+        |(value, taken)| print!(rt; " {value}, bytes taken {taken}"),
+    )
 }
 
 pub fn write<N: Integer + Display>(rt: &impl Print, name: &str, value: N) -> io::Result<()> {
@@ -19,7 +20,7 @@ pub fn write<N: Integer + Display>(rt: &impl Print, name: &str, value: N) -> io:
     show::written(rt, wrote, &out)
 }
 
-// The same to an output of one byte, EE, with that byte after the call.
+// The same to an output of one byte, EE, with that byte after the call. One function for both would take the words and the way to show it.
 pub fn write_to_one(rt: &impl Print, value: u64) -> io::Result<()> {
     let mut out = [0xEEu8];
     let wrote = varint::write(&mut out, value);

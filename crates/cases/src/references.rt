@@ -13,22 +13,20 @@ fn shown(rt: &impl Print, reference: OverflowRef, taken: usize) -> io::Result<()
 
 pub fn read(rt: &impl Print, bytes: &[u8]) -> io::Result<()> {
     print!(rt; "reference{}:", Hex(bytes))?;
-    show::answer(
+    show::line(
         rt,
         overflow::decode(bytes, 0),
         |(reference, taken)| shown(rt, reference, taken),
-    )?;
-    println!(rt;)
+    )
 }
 
 pub fn read_paged(rt: &impl Print, bytes: &[u8]) -> io::Result<()> {
     print!(rt; "paged entry{}:", Hex(bytes))?;
-    show::answer(
+    show::line(
         rt,
         overflow::decode_paged(bytes, 0),
         |entry| entry_shown(rt, entry),
-    )?;
-    println!(rt;)
+    )
 }
 
 fn entry_shown(rt: &impl Print, entry: PagedEntry) -> io::Result<()> {

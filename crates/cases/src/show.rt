@@ -1,4 +1,5 @@
-// How bytes and answers are shown.
+// How bytes and answers are shown. The values of other crates are shown by functions beside their calls: `Display` may be written only where the
+// trait or the type is.
 use paper::Refusal;
 use std::{fmt, io};
 
@@ -29,12 +30,23 @@ pub fn answer<T, S: FnOnce(T) -> io::Result<()>>(
     }
 }
 
+// The same, at the end of a line.
+pub fn line<T, S: FnOnce(T) -> io::Result<()>>(
+    rt: &impl Print,
+    given: Result<T, Refusal>,
+    show: S,
+) -> io::Result<()>
+    requires { S.IsAlwaysCallable show }
+{
+    answer(rt, given, show)?;
+    println!(rt;)
+}
+
 // The rest of a line that tells what was written to the start of `out`.
 pub fn written(rt: &impl Print, wrote: Result<usize, Refusal>, out: &[u8]) -> io::Result<()> {
     let written = out.get(..wrote.unwrap_or(0)).unwrap_or(out);
     print!(rt; ":")?;
-    answer(rt, wrote, |_| print!(rt; "{}", Hex(written)))?;
-    println!(rt;)
+    line(rt, wrote, |_| print!(rt; "{}", Hex(written)))
 }
 
 // The same for an output of which every byte is shown.

@@ -4,6 +4,5 @@ use std::io;
 
 pub fn check(rt: &impl Print, bytes: &[u8]) -> io::Result<()> {
     print!(rt; "check{}:", Hex(bytes))?;
-    show::answer(rt, utf8::check(bytes), |()| print!(rt; " text"))?;
-    println!(rt;)
+    show::line(rt, utf8::check(bytes), |()| print!(rt; " text"))
 }

@@ -9,7 +9,7 @@ ghost use Rattle.cell.specs.Written.{block_bytes, encoded, write_cell};
 ghost use Rattle.cell.specs.ValueList.{value_list};
 ghost use Rattle.cell.specs.Tag.{tag_byte};
 ghost use Rattle.cell.specs.ColumnKind.{kind_byte, Kinds};
-ghost use Rattle.cell.specs.Listing.{used, held, payload, block_len, kind_bit, kind_bits, kind_map, Judged, Common, largest, blocks_len, head_of};
+ghost use Rattle.cell.specs.Listing.{used, held, payload, block_len, kind_bits, kind_map, Judged, Common, largest, blocks_len, head_of};
 
 use crate::Kind;
 use crate::inner::columns::bitmap_bytes;
@@ -158,7 +158,7 @@ fn first_bytes(kind: u8) -> usize
 // A number of eight bytes, as many as a real has.
 const AS_LONG_AS_A_REAL: u64 = 0x2_0000_0000_0000;
 
-// As `block_len`, without the kinds that are strange. The first byte of a number is counted with the tag.
+// As `block_len`, for a common kind. The first byte of a number is counted with the tag.
 #[tactic(auto, using(crate::proofs::QuickMeasuring::quickly))]
 fn quick_len(kind: u8, word: u64) -> usize
     requires { Common kind × (used kind word ≤ 16777216) }
@@ -280,7 +280,8 @@ fn put_head(out: &mut [u8], id: u64, columns: u64) -> usize
 
 // ---- the list as a whole
 
-// A value list of the size that is allowed, with a word for each kind.
+// A value list of the size that is allowed, with a word for each kind. Each reading and the writing go over kinds and words together: Rattle has no
+// `impl Iterator` as a result.
 #[derive(Clone, Copy)]
 struct ValueList<'a> {
     kinds: &'a [u8],
@@ -415,7 +416,7 @@ impl<'a> ValueList<'a> {
     }
 }
 
-// Writes the entry of a value list: its kinds, its words of eight bytes each, and its data. A refused write changes no byte.
+// Writes the entry of a value list: its kinds, its words of eight bytes each, and its data, as C lends them. A refused write changes no byte.
 #[tactic(auto, using(crate::proofs::Writing::calls))]
 pub fn encode(
     rowid: i64,

@@ -1,6 +1,7 @@
 #![tactic(auto, using(crate::proofs::Blocks::blocks), unfolding(paper::specs::Answer::and_then, paper::specs::Answer::pick))]
 
-// The walk over an entry. It is the page check's inner loop.
+// The walk over an entry. It is the page check's inner loop. A place counts from the start of the body, as document 01's places do, so
+// the body goes with it.
 pub mod columns;
 pub mod framing;
 pub mod keyed;
@@ -13,6 +14,7 @@ ghost use Rattle.cell.specs.LocalRead.{Locally};
 use crate::Kind;
 use crate::tag::Tag;
 use columns::Columns;
+pub use columns::{is_null, walk};
 use paper::Refusal;
 use varint::inner::{end_at, value_at};
 

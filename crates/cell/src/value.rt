@@ -15,7 +15,7 @@ use paper::Refusal;
 use std::num::f64_from_bits_with_nan;
 
 // What stands in a column. A float's pattern stands beside it, since a NaN does not tell its own; a text and a vector are a
-// place in the caller's slice, then the byte length or the dimension.
+// place in the caller's slice, then the byte length or the dimension: C is answered a place, and no slice.
 #[derive(Clone, Copy)]
 pub enum Value {
     Null,
@@ -54,7 +54,7 @@ fn value_block(body: &[u8], at: usize, shift: usize) -> Value
     }
 }
 
-// The value of a column, all of which were read.
+// The value of one of the columns, all of which were read.
 fn column_block(columns: Columns, column: usize, shift: usize) -> Value
     requires there { HasColumn columns column }
     requires fits { shift + length columns.body.now < 2 ^ 63 }

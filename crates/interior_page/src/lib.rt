@@ -71,6 +71,7 @@ fn quick_from(s: &[u8]) -> Option<(InteriorCell, usize)>
     ))
 }
 
+// As a reference is read, which see.
 #[inline(always)]
 fn decode_from(s: &[u8]) -> Result<(InteriorCell, usize), Refusal>
     ensures { paper_interior result ≡ interior_from s.now }

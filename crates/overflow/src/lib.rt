@@ -39,7 +39,8 @@ fn reference_body(body: &[u8]) -> Result<OverflowRef, Refusal>
     })
 }
 
-// The plain way: the frame, then the body. It is seldom gone, and stays a call, so that the quick way saves no registers for it.
+// The plain way: the frame, then the body. It is seldom gone, and stays a call, so that the quick way saves no registers for it. An interior
+// cell's is alike, but one function for both would have to say what the body's reader promises, and be longer than the two.
 #[cold]
 #[tactic(auto, using(crate::proofs::References::reference_entries), unfolding(crate::specs::Reference::reference_from))]
 fn plain_from(s: &[u8]) -> Result<(OverflowRef, usize), Refusal>
@@ -80,6 +81,7 @@ fn quick_from(s: &[u8]) -> Option<(OverflowRef, usize)>
     ))
 }
 
+// An interior cell is read alike: a trait over the two, with their definitions and both ways, would be longer than these few lines.
 #[inline(always)]
 fn decode_from(s: &[u8]) -> Result<(OverflowRef, usize), Refusal>
     ensures { paper_ref result ≡ reference_from s.now }

@@ -37,6 +37,7 @@ pub enum Refusal {
 }
 
 impl Refusal {
+    // No `From`: so the clause is the plain equation.
     pub fn number(self) -> u8
         ensures { result ≡ number self }
     {

@@ -9,7 +9,7 @@ pub const ROOM: usize = 0x4000;
 // Stands in an answer array before a call, and after one that is refused.
 const UNTOUCHED: u64 = 0xA5A5_5A5A_C3C3_3C3C;
 
-// An answer array. The bound of a closure can name a type, and no length.
+// An answer array. The check has no proof where the bound of a closure names a length, as `[u64; N]`, so it names this.
 pub trait Answer: Drop {
     fn untouched() -> Self;
 

@@ -15,6 +15,7 @@ pub fn after(text: &[u8], stop: u8) -> &[u8]
     }
 }
 
+// Not `to_digit`, which takes A to F too: a damaged line counts as it always did.
 fn digit(byte: u8) -> Result<u8, Fault>
     ensures { IfOk result (λ value. value < 16) }
 {
@@ -30,7 +31,7 @@ fn pair(high: u8, low: u8) -> Result<u8, Fault> {
     Ok(digit(high)? * 16 + digit(low)?)
 }
 
-// Four digits as a count of places. Two of them that are no byte count as 256.
+// Four digits as a count of places. Two of them that are no byte count as 256: a damaged line counts as it always did.
 fn count(first: u8, second: u8, third: u8, fourth: u8) -> usize {
     let high = pair(first, second).map_or(256, usize::from);
     let low = pair(third, fourth).map_or(256, usize::from);

@@ -1,14 +1,17 @@
 // How a call's answer goes through C.
-ghost use Rattle.std.specs.Prelude.{◌≡◌, ℕ, List};
+ghost use Rattle.std.specs.Prelude.{◌≡◌, ℕ, List, []};
+ghost use Rattle.std.specs.Int.{w64};
+ghost use Rattle.std.proofs.Common.{of_z};
 ghost use Rattle.paper.specs.Answer.{answer_of};
 ghost use Rattle.cell.specs.PaperValue.{paper_value};
 ghost use Rattle.overflow.specs.Paper.{reference_values, paged_values};
 ghost use Rattle.interior_page.specs.Paper.{interior_values};
-ghost use Rattle.seremonek.specs.Interface.{code_of, answered, one, two, signed_one, signed_two, signed_three, value_three};
+ghost use Rattle.seremonek.specs.Interface.{code_of, answered, one, two, signed_three, value_three};
 ghost use Rattle.seremonek.specs.Keyed.{reference_words, paged_words, interior_words};
 
-use cell::Head;
+use cell::tag::Tag;
 use cell::value::Value;
+use cell::{Head, Kind};
 use interior_page::InteriorCell;
 use overflow::{OverflowRef, PagedEntry};
 use paper::Refusal;
@@ -35,43 +38,69 @@ pub fn reply<const N: usize, T: Words<N>>(given: Result<T, Refusal>, answer: &mu
     }
 }
 
-impl Words<1> for u8 {
-    ghost words = { one };
+// One number of an answer, as a word.
+pub trait Word {
+    ghost word: { Self → ℕ };
 
-    fn words(self) -> [u64; 1] {
-        [self as u64]
+    fn word(self) -> u64
+        ensures { result ≡ word self };
+}
+
+impl Word for u8 {
+    ghost word = { λ n. n };
+
+    fn word(self) -> u64 {
+        self as u64
     }
 }
 
-impl Words<1> for usize {
-    ghost words = { one };
+impl Word for usize {
+    ghost word = { λ n. n };
 
-    fn words(self) -> [u64; 1] {
-        [self as u64]
+    fn word(self) -> u64 {
+        self as u64
     }
 }
 
-impl Words<1> for i64 {
-    ghost words = { signed_one };
+impl Word for u64 {
+    ghost word = { λ n. n };
 
-    fn words(self) -> [u64; 1] {
-        [self.cast_unsigned()]
+    fn word(self) -> u64 {
+        self
     }
 }
 
-impl Words<2> for (u64, usize) {
-    ghost words = { two };
+// a signed number is its 64-bit pattern
+impl Word for i64 {
+    ghost word = { λ z. of_z w64 z };
+
+    fn word(self) -> u64 {
+        self.cast_unsigned()
+    }
+}
+
+impl<T: Word> Words<1> for T {
+    ghost words = { λ value. one (T.word value) };
+
+    fn words(self) -> [u64; 1] {
+        [self.word()]
+    }
+}
+
+impl<T: Word> Words<2> for (T, usize) {
+    ghost words = { λ (value, bytes). two (T.word value, bytes) };
 
     fn words(self) -> [u64; 2] {
-        [self.0, self.1 as u64]
+        [self.0.word(), self.1 as u64]
     }
 }
 
-impl Words<2> for (i64, usize) {
-    ghost words = { signed_two };
+// nothing
+impl Words<0> for () {
+    ghost words = { λ _. [] };
 
-    fn words(self) -> [u64; 2] {
-        [self.0.cast_unsigned(), self.1 as u64]
+    fn words(self) -> [u64; 0] {
+        []
     }
 }
 
@@ -95,12 +124,13 @@ impl Words<3> for Value {
     #[tactic(auto, unfolding(paper::specs::Answer::pick))]
     fn words(self) -> [u64; 3] {
         match self {
+            // 255: C's number of a null
             Value::Null => [255, 0, 0],
-            Value::Integer(v) => [0, v.cast_unsigned(), 0],
-            Value::Real(_, bits) => [1, bits, 0],
-            Value::Text(at, len) => [2, len as u64, at as u64],
-            Value::Bool(b) => [3, u64::from(b), 0],
-            Value::Vector(at, dim) => [4, dim as u64, at as u64],
+            Value::Integer(v) => [Tag::Integer as u64, v.cast_unsigned(), 0],
+            Value::Real(_, bits) => [Tag::Real as u64, bits, 0],
+            Value::Text(at, len) => [Tag::Text as u64, len as u64, at as u64],
+            Value::Bool(b) => [Tag::Bool as u64, u64::from(b), 0],
+            Value::Vector(at, dim) => [Tag::Vector as u64, dim as u64, at as u64],
         }
     }
 }
@@ -110,12 +140,11 @@ impl Words<4> for (OverflowRef, usize) {
     ghost words = { λ (reference, bytes). reference_words (reference_values reference, bytes) };
 
     fn words(self) -> [u64; 4] {
-        let (reference, bytes) = self;
         [
-            reference.rowid.cast_unsigned(),
-            reference.total_body_len,
-            reference.first_overflow_page as u64,
-            bytes as u64,
+            self.0.rowid.cast_unsigned(),
+            self.0.total_body_len,
+            self.0.first_overflow_page as u64,
+            self.1 as u64,
         ]
     }
 }
@@ -127,14 +156,14 @@ impl Words<5> for PagedEntry {
     fn words(self) -> [u64; 5] {
         match self {
             PagedEntry::Local(head) => [
-                1,
+                Kind::Local as u64,
                 head.rowid.cast_unsigned(),
                 head.columns as u64,
                 0,
                 head.bytes as u64,
             ],
             PagedEntry::Overflow(reference, bytes) => [
-                2,
+                Kind::Overflow as u64,
                 reference.rowid.cast_unsigned(),
                 reference.total_body_len,
                 reference.first_overflow_page as u64,
@@ -149,11 +178,11 @@ impl Words<3> for (InteriorCell, usize) {
     ghost words = { λ (cell, bytes). interior_words (interior_values cell, bytes) };
 
     fn words(self) -> [u64; 3] {
-        let (cell, bytes) = self;
+        let (cell, taken) = self;
         [
             cell.divider_rowid.cast_unsigned(),
             cell.child_page as u64,
-            bytes as u64,
+            taken as u64,
         ]
     }
 }

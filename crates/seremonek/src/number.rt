@@ -1,4 +1,4 @@
-// Numbers: LEB128 and ZigZag.
+// Numbers: LEB128 and ZigZag. C has a call for each type.
 ghost use Rattle.std.specs.Prelude.{◌≡◌, length};
 ghost use Rattle.paper.specs.Answer.{put, size_of};
 ghost use Rattle.varint.specs.Leb.{read_u64, write_u64, len_u64};

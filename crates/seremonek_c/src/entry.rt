@@ -3,7 +3,6 @@ ghost use Rattle.std.specs.Prelude.{◌≡◌, drop, length};
 ghost use Rattle.paper.specs.Answer.{put, size_of};
 ghost use Rattle.cell.specs.Entry.{peek_kind, peek_rowid, size_at};
 ghost use Rattle.cell.specs.Local.{head_from, value_at};
-ghost use Rattle.cell.specs.PaperValue.{paper_value};
 ghost use Rattle.cell.specs.Written.{encoded, write_cell};
 ghost use Rattle.seremonek.specs.Interface.{code_of, answered, one, signed_one, signed_three, value_three};
 

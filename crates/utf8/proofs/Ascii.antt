@@ -60,6 +60,14 @@ past_more n {s} {rest} {words} {more} p w m a =
       split = append_assoc p.passed words more ∙ ap (λ t. p.passed ++ t) (rw (w, m) (take-append-drop n rest)) ∙ p.split;
     }
 
+pub past_both : {s rest more : List ℕ} → Past s rest → Past rest more → Past s more
+past_both p q =
+    record {
+      passed = p.passed ++ q.passed;
+      ascii = IsAscii-append p.passed q.passed p.ascii q.ascii;
+      split = append_assoc p.passed q.passed _ ∙ ap (λ t. p.passed ++ t) q.split ∙ p.split;
+    }
+
 pub past_same : {s rest : List ℕ} → Past s rest → well_formed rest ≡ well_formed s
 past_same p = sym (ascii_past p.passed _ p.ascii) ∙ ap well_formed p.split
 

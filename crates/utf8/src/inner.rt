@@ -1,5 +1,5 @@
 // The quick form. ASCII is passed over, and whatever else is read by a machine of nine states (specs/Machine.antt).
-ghost use Rattle.std.specs.Prelude.{◌≡◌, true, ◌↔◌, ◌-◌, ◌≤◌, length, take, drop, fold, IsTrue, IsAscii};
+ghost use Rattle.std.specs.Prelude.{◌≡◌, true, ◌↔◌, ◌-◌, ◌^◌, ◌≤◌, ◌<◌, length, take, drop, fold, IsTrue, IsAscii};
 ghost use Rattle.utf8.specs.WellFormed.{after, whole, well_formed};
 ghost use Rattle.utf8.specs.Ascii.{Past, Plain};
 
@@ -14,23 +14,28 @@ fn only_ascii<const N: usize>(bytes: &[u8; N]) -> bool
     bytes.iter().fold(0, |all, byte| all | *byte) < 0x80
 }
 
-// What stands behind the ASCII at the start of s, by whole words: eight at a time, and then each.
-fn past_ascii(s: &[u8]) -> &[u8]
+// What stands behind the ASCII that s begins with, by whole parts of N bytes.
+fn past<const N: usize>(s: &[u8]) -> &[u8]
+    requires nonzero { 0 < N }
+    requires size_fits { N < 2 ^ 63 }
     ensures past { Past s.now result.now }
-    ensures stops { 8 ≤ length result.now → ¬ (IsAscii (take 8 result.now)) }
+    ensures stops { N ≤ length result.now → ¬ (IsAscii (take N result.now)) }
 {
     let mut rest = s;
-    while let Some((words, more)) = rest.split_first_chunk::<64>()
-        && only_ascii(words)
-    {
-        rest = more;
-    }
-    while let Some((word, more)) = rest.split_first_chunk::<8>()
-        && only_ascii(word)
+    while let Some((part, more)) = rest.split_first_chunk::<N>()
+        && only_ascii(part)
     {
         rest = more;
     }
     rest
+}
+
+// The same by whole words: eight at a time, and then each.
+fn past_ascii(s: &[u8]) -> &[u8]
+    ensures past { Past s.now result.now }
+    ensures stops { 8 ≤ length result.now → ¬ (IsAscii (take 8 result.now)) }
+{
+    past::<8>(past::<64>(s))
 }
 
 // Whether the last eight bytes are ASCII, or all where there are fewer.
@@ -51,6 +56,8 @@ pub fn all_ascii(s: &[u8]) -> bool
 }
 
 // ---- the machine
+
+// The chart and the moves are numbers and no enums, for speed: a step is two loads and a shift.
 
 // A chart of the bytes 00 to FF, sixteen to a line: bytes that no row of the table tells apart have one letter, and - stands for those in no row.
 // The low four bits of a letter number its class: p is 0, a is 1, and - is 13.
