@@ -9,6 +9,7 @@ pub mod Short
 pub mod Values
 pub mod ExactValue
 pub mod Placing
+pub mod Copying
 pub mod Numbers
 pub mod Pairing
 pub mod BlockWriting

@@ -26,8 +26,7 @@ const MAX_COLUMNS: usize = 65536;
 
 const MAX_DATA: usize = 16777216;
 
-// What a column's kind says.
-#[derive(Clone, Copy)]
+#[derive(Clone, Copy, PartialEq, Eq)]
 enum ColumnKind {
     Value(Tag),
     InnerNull,
@@ -119,9 +118,8 @@ impl ColumnKind {
     }
 }
 
-// ---- the same, quick: no jump hangs on a column's kind, so that nulls at random are not guessed wrong. So a kind is a byte here, and each test
-// of one is a function of its own, which is laid out as a choice between two numbers. Without this reading twenty columns miss the bar of
-// docs/BENCH.md.
+// ---- the same, quick: no jump hangs on a column's kind, so that nulls at random are not guessed wrong. Each test of a kind is
+// a function of its own, which is laid out as a choice between two numbers.
 
 // One value where the kind is this one, another elsewhere.
 #[tactic(auto, unfolding(paper::specs::Answer::pick))]
@@ -177,20 +175,35 @@ fn quick_len(kind: u8, word: u64) -> usize
 
 // ---- writers: each writes its bytes from the start of an output that has room, and answers how many
 
+// Names and codes are short, and their lengths cannot be guessed: eight to sixteen bytes are copied by their first eight and their last
+// eight, which may meet. `copy_from_slice` alone was tried, and misses the bar of speed on twenty columns.
+#[tactic(auto, using(crate::proofs::Copying::ends_meet), unfolding(paper::specs::Answer::over))]
+fn copy(out: &mut [u8], src: &[u8])
+    requires { length src.now ≤ length out.old }
+    ensures { out.new ≡ over out.old src.now }
+{
+    let n = src.len();
+    if 8 <= n && n <= 16 {
+        out[..8].copy_from_slice(&src[..8]);
+        out[n - 8..n].copy_from_slice(&src[n - 8..]);
+    } else {
+        out[..n].copy_from_slice(src);
+    }
+}
+
 // A number, and bytes behind it.
-#[tactic(auto, unfolding(paper::specs::Answer::over))]
+#[tactic(auto, using(crate::proofs::Placing::then_over))]
 fn put_counted(out: &mut [u8], count: u64, src: &[u8]) -> usize
     requires { length (leb_bytes count) + length src.now ≤ length out.old }
     ensures value { result ≡ length (leb_bytes count) + length src.now }
     ensures out_after { out.new ≡ over out.old (leb_bytes count ++ src.now) }
 {
-    let start = varint::inner::put_u64(out, count);
-    let end = start + src.len();
-    out[start..end].copy_from_slice(src);
-    end
+    let n = varint::inner::put_u64(out, count);
+    copy(&mut out[n..], src);
+    n + src.len()
 }
 
-// An integer. Most are short, and their lengths cannot be guessed: by the loop alone twenty columns miss the bar of docs/BENCH.md.
+// An integer. Most are short, and their lengths cannot be guessed.
 fn put_integer(out: &mut [u8], number: u64) -> usize
     requires { length (leb_bytes number) ≤ length out.old }
     ensures value { result ≡ length (leb_bytes number) }
@@ -203,7 +216,7 @@ fn put_integer(out: &mut [u8], number: u64) -> usize
 }
 
 // A value block after its tag. Its data starts where what is left does.
-#[tactic(auto, using(field::proofs::Storing::length_bytes), unfolding(crate::specs::Listing::payload, paper::specs::Answer::over, crate::specs::Listing::used, paper::specs::Answer::pick))]
+#[tactic(auto, using(field::proofs::Storing::length_bytes, crate::proofs::Placing::set_first), unfolding(crate::specs::Listing::payload, paper::specs::Answer::over, crate::specs::Listing::used, paper::specs::Answer::pick))]
 fn put_payload(out: &mut [u8], tag: Tag, word: u64, rest: &[u8]) -> usize
     requires data_there { used (tag_byte tag) word ≤ length rest.now }
     requires room { length (payload (tag_byte tag) word rest.now) ≤ length out.old }
@@ -226,7 +239,7 @@ fn put_payload(out: &mut [u8], tag: Tag, word: u64, rest: &[u8]) -> usize
 }
 
 // A value block, tag first. A null has none.
-#[tactic(auto, using(crate::proofs::BlockWriting::tag_block, std::proofs::lemmas::Grind::common_steps), unfolding(paper::specs::Answer::over))]
+#[tactic(auto, using(crate::proofs::BlockWriting::tag_block, crate::proofs::Placing::first_then, std::proofs::lemmas::Grind::common_steps))]
 fn put_block(out: &mut [u8], tag: Tag, word: u64, rest: &[u8]) -> usize
     requires data_there { used (tag_byte tag) word ≤ length rest.now }
     requires room { length (block_bytes (held (tag_byte tag) word rest.now)) ≤ length out.old }
@@ -300,11 +313,16 @@ impl<'a> ValueList<'a> {
         ensures { MatchResult result (λ list. value_list kinds.now words.now «data».now ≡ columns_in list) (λ refusal. refuses (number refusal) ≡ value_list kinds.now words.now «data».now) }
     {
         let (words, rest) = words.as_chunks::<8>();
-        if !rest.is_empty()
-            || MAX_COLUMNS < kinds.len()
-            || MAX_COLUMNS < words.len()
-            || MAX_DATA < data.len()
-        {
+        if !rest.is_empty() {
+            return Err(Refusal::WrongSize);
+        }
+        if MAX_COLUMNS < kinds.len() {
+            return Err(Refusal::WrongSize);
+        }
+        if MAX_COLUMNS < words.len() {
+            return Err(Refusal::WrongSize);
+        }
+        if MAX_DATA < data.len() {
             return Err(Refusal::WrongSize);
         }
         if kinds.len() != words.len() {
@@ -359,7 +377,7 @@ impl<'a> ValueList<'a> {
     }
 
     // The value blocks of all columns. Where the quick reading does not know, the plain one tells.
-    // Laid out in both calls, as `measure` is, since a list and a Result go through memory at a call.
+    // Laid out in both calls, as `measure` is: a list and a Result go through memory at a call.
     #[inline(always)]
     fn measure_blocks(&self) -> Result<usize, Refusal>
         ensures { answer_of result ≡ blocks_len (columns_in self.now) }
