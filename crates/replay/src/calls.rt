@@ -48,60 +48,106 @@ impl fmt::Display for Count {
 pub trait Layer {
     const FILE: &'static str;
 
-    // Each call by its name and what replays it, in the order of their numbers.
-    fn calls<R: Print>(replay: &mut Replay<'_, R>) -> io::Result<()>;
+    // Goes through the calls: each by its name and what replays it, in the order of their numbers.
+    fn calls<C: Calls>(calls: &mut C) -> Result<(), C::Stop>;
 }
 
-// The replay of a layer, call by call.
-#[derive(Drop)]
-pub struct Replay<'a, R> {
-    rt: &'a R,
-    text: &'a [u8],
-    // The number of the call that was replayed last. They are numbered from 1 on.
-    last: u64,
-    total: Count,
-}
+// What is done with the calls of a layer, one after the other.
+pub trait Calls {
+    // Why it goes no further.
+    type Stop: Drop;
 
-impl<'a, R: Print> Replay<'a, R> {
-    pub fn new(rt: &'a R, text: &'a [u8]) -> Self {
-        Replay {
-            rt,
-            text,
-            last: 0,
-            total: Count::default(),
-        }
-    }
-
-    // The next call: `replayed` makes it again as a line says. Prints how often the answer is the recorded one.
-    pub fn call<F: Fn(Fields<'_>) -> Result<(), Fault>>(
+    fn call<F: Fn(Fields<'_>) -> Result<(), Fault>>(
         &mut self,
         name: &str,
         replayed: F,
-    ) -> io::Result<()>
+    ) -> Result<(), Self::Stop>
+        requires { F.IsAlwaysCallable replayed };
+}
+
+// How many calls a layer can have.
+const CALLS: usize = 64;
+
+// Makes the call that a line names, and goes no further.
+#[derive(Drop)]
+struct Made<'a> {
+    fields: Fields<'a>,
+    call: u64,
+    // The number of the call that was come to last. They are numbered from 1 on.
+    last: u64,
+}
+
+impl Calls for Made<'_> {
+    type Stop = Count;
+
+    fn call<F: Fn(Fields<'_>) -> Result<(), Fault>>(
+        &mut self,
+        _name: &str,
+        replayed: F,
+    ) -> Result<(), Count>
         requires { F.IsAlwaysCallable replayed }
     {
         self.last = self.last.wrapping_add(1);
-        let mut count = Count::default();
-        for mut fields in Lines(self.text) {
-            if fields.call() == Some(self.last) {
-                count += Count::from(replayed(fields));
-            }
+        if self.last == self.call {
+            return Err(Count::from(replayed(self.fields)));
         }
-        self.total += count;
+        Ok(())
+    }
+}
+
+// Prints for each call how often the answer is the recorded one.
+#[derive(Drop)]
+struct Printed<'a, R> {
+    rt: &'a R,
+    counts: &'a [Count],
+}
+
+impl<R: Print> Calls for Printed<'_, R> {
+    type Stop = io::Error;
+
+    fn call<F: Fn(Fields<'_>) -> Result<(), Fault>>(
+        &mut self,
+        name: &str,
+        _replayed: F,
+    ) -> io::Result<()>
+        requires { F.IsAlwaysCallable _replayed }
+    {
+        let (count, rest) = match self.counts {
+            [count, rest @ ..] => (*count, rest),
+            [] => (Count::default(), self.counts),
+        };
+        self.counts = rest;
         println!(self.rt; "{name} {count}")
     }
+}
 
-    // The count of all lines. One that names no call of the layer differs.
-    pub fn total(self) -> Count {
-        let mut total = self.total;
-        for mut fields in Lines(self.text) {
-            if fields
-                .call()
-                .is_some_and(|call| !(1..=self.last).contains(&call))
-            {
-                total += Count::ONE_DIFFERS;
+// Replays each line of `text`, then prints the counts of the layer's calls. Answers the count of all lines, of which one that names no
+// call of the layer differs.
+pub fn replay_lines<L: Layer, R: Print>(rt: &R, text: &[u8]) -> io::Result<Count> {
+    let mut total = Count::default();
+    let mut counts = [Count::default(); CALLS];
+    for fields in Lines(text) {
+        let Some(call) = fields.call() else {
+            continue;
+        };
+        let mut made = Made {
+            fields,
+            call,
+            last: 0,
+        };
+        match L::calls(&mut made) {
+            Ok(()) => total += Count::ONE_DIFFERS,
+            Err(count) => {
+                total += count;
+                if let Some(of_call) = counts.get_mut((call as usize).wrapping_sub(1)) {
+                    *of_call += count;
+                }
             }
         }
-        total
     }
+    L::calls(&mut Printed {
+        rt,
+        counts: &counts,
+    })?;
+    Ok(total)
 }

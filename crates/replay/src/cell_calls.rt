@@ -1,30 +1,29 @@
 // The calls of data/cell.txt, in the order of rust/differential/src/cell.rs.
 use crate::answers::ROOM;
-use crate::calls::{Layer, Replay};
+use crate::calls::{Calls, Layer};
 use crate::fault::Fault;
 use crate::fields::Fields;
 use seremonek::entry::{
     smk_cell_decode, smk_cell_encode, smk_cell_encoded_len, smk_cell_value, smk_encoded_size_at,
     smk_peek_kind, smk_peek_rowid,
 };
-use std::io;
 
 pub struct Cell;
 
 impl Layer for Cell {
     const FILE: &'static str = "cell.txt";
 
-    fn calls<R: Print>(replay: &mut Replay<'_, R>) -> io::Result<()> {
-        replay.call("smk_peek_kind", |fields| fields.read(smk_peek_kind))?;
-        replay.call("smk_peek_rowid", |fields| fields.read(smk_peek_rowid))?;
-        replay.call(
+    fn calls<C: Calls>(calls: &mut C) -> Result<(), C::Stop> {
+        calls.call("smk_peek_kind", |fields| fields.read(smk_peek_kind))?;
+        calls.call("smk_peek_rowid", |fields| fields.read(smk_peek_rowid))?;
+        calls.call(
             "smk_encoded_size_at",
             |fields| fields.read(smk_encoded_size_at),
         )?;
-        replay.call("smk_cell_decode", |fields| fields.read(smk_cell_decode))?;
-        replay.call("smk_cell_value", value)?;
-        replay.call("smk_cell_encode", encode)?;
-        replay.call("smk_cell_encoded_len", encoded_len)
+        calls.call("smk_cell_decode", |fields| fields.read(smk_cell_decode))?;
+        calls.call("smk_cell_value", value)?;
+        calls.call("smk_cell_encode", encode)?;
+        calls.call("smk_cell_encoded_len", encoded_len)
     }
 }
 

@@ -61,32 +61,35 @@ fn first_step(text: &[u8]) -> Result<Option<(Step, &[u8])>, Fault>
     Ok(Some((Step { count, byte }, rest)))
 }
 
-// The text from a field on.
+// The number in the hexadecimal digits that `text` starts with.
+fn number(text: &[u8]) -> u64 {
+    text.iter()
+        .map_while(|byte| digit(*byte).ok())
+        .fold(0, |value: u64, digit| (value << 4) | u64::from(digit))
+}
+
+// The text from the field on that was read last. The next field is looked for when it is asked for, and not before: behind a line's last
+// field the next blank may stand many lines on.
 #[derive(Clone, Copy)]
 pub struct Fields<'a>(&'a [u8]);
 
 impl<'a> Fields<'a> {
-    // The text from this field on. Each of these methods goes on to the next field.
-    fn field(&mut self) -> &'a [u8] {
-        let field = self.0;
-        self.0 = after(field, b' ');
-        field
-    }
-
-    // The number of the call that the line makes, if it is not for the reader alone.
-    pub fn call(&mut self) -> Option<u64> {
+    // The number of the call that the line makes, if it is not for the reader alone: its first field.
+    pub fn call(&self) -> Option<u64> {
         if self.0.starts_with(b"#") {
             return None;
         }
-        Some(self.number())
+        Some(number(self.0))
     }
 
-    // The number in the hexadecimal digits that the field starts with.
+    // The text from the next field on. Each of these methods goes on to it.
+    fn next_field(&mut self) -> &'a [u8] {
+        self.0 = after(self.0, b' ');
+        self.0
+    }
+
     pub fn number(&mut self) -> u64 {
-        self.field()
-            .iter()
-            .map_while(|byte| digit(*byte).ok())
-            .fold(0, |value: u64, digit| (value << 4) | u64::from(digit))
+        number(self.next_field())
     }
 
     // The signed number of this 64-bit pattern.
@@ -102,7 +105,7 @@ impl<'a> Fields<'a> {
     pub fn bytes<'b>(&mut self, room: &'b mut [u8]) -> Result<&'b mut [u8], Fault>
         ensures { IfOk result (λ bytes. length bytes.now ≤ length room.old) }
     {
-        let mut text = self.field();
+        let mut text = self.next_field();
         let mut covered: usize = 0;
         while let Some((step, rest)) = first_step(text)? {
             let end = covered.saturating_add(step.count);

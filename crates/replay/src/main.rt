@@ -15,7 +15,7 @@ mod varint_calls;
 
 ghost use Rattle.std.specs.Prelude.{◌≤◌, length};
 
-use crate::calls::{Count, Layer, Replay};
+use crate::calls::{Count, Layer, replay_lines};
 use crate::cell_calls::Cell;
 use crate::reference_calls::References;
 use crate::text_calls::Utf8;
@@ -59,9 +59,7 @@ fn replay<L: Layer, R: Files + Print + Eprint>(rt: &R) -> io::Result<Count> {
         println!(rt; "a file of data/ is longer than there is room for")?;
         return Ok(Count::ONE_DIFFERS);
     }
-    let mut replay = Replay::new(rt, text);
-    L::calls(&mut replay)?;
-    Ok(replay.total())
+    replay_lines::<L, R>(rt, text)
 }
 
 fn main(rt: HostRuntime) -> io::Result<()> {

@@ -1,28 +1,27 @@
 // The calls of data/references.txt, in the order of rust/differential/src/references.rs: overflow references, paged entries and interior cells.
-use crate::calls::{Layer, Replay};
+use crate::calls::{Calls, Layer};
 use crate::fault::Fault;
 use crate::fields::Fields;
 use seremonek::interior::{smk_interior_cell_decode, smk_interior_cell_encode};
 use seremonek::reference::{smk_entry_decode, smk_overflow_decode, smk_overflow_encode};
-use std::io;
 
 pub struct References;
 
 impl Layer for References {
     const FILE: &'static str = "references.txt";
 
-    fn calls<R: Print>(replay: &mut Replay<'_, R>) -> io::Result<()> {
-        replay.call(
+    fn calls<C: Calls>(calls: &mut C) -> Result<(), C::Stop> {
+        calls.call(
             "smk_overflow_decode",
             |fields| fields.read(smk_overflow_decode),
         )?;
-        replay.call("smk_overflow_encode", overflow_encode)?;
-        replay.call("smk_entry_decode", |fields| fields.read(smk_entry_decode))?;
-        replay.call(
+        calls.call("smk_overflow_encode", overflow_encode)?;
+        calls.call("smk_entry_decode", |fields| fields.read(smk_entry_decode))?;
+        calls.call(
             "smk_interior_cell_decode",
             |fields| fields.read(smk_interior_cell_decode),
         )?;
-        replay.call("smk_interior_cell_encode", interior_encode)
+        calls.call("smk_interior_cell_encode", interior_encode)
     }
 }
 

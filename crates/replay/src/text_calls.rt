@@ -1,18 +1,17 @@
 // The calls of data/utf8.txt, in the order of rust/differential/src/utf8.rs.
 use crate::answers::ROOM;
-use crate::calls::{Layer, Replay};
+use crate::calls::{Calls, Layer};
 use crate::fault::Fault;
 use crate::fields::Fields;
 use seremonek::text::smk_utf8_check;
-use std::io;
 
 pub struct Utf8;
 
 impl Layer for Utf8 {
     const FILE: &'static str = "utf8.txt";
 
-    fn calls<R: Print>(replay: &mut Replay<'_, R>) -> io::Result<()> {
-        replay.call("smk_utf8_check", utf8_check)
+    fn calls<C: Calls>(calls: &mut C) -> Result<(), C::Stop> {
+        calls.call("smk_utf8_check", utf8_check)
     }
 }
 

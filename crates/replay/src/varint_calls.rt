@@ -1,31 +1,30 @@
 // The calls of data/varint.txt, in the order of rust/differential/src/varint.rs.
-use crate::calls::{Layer, Replay};
+use crate::calls::{Calls, Layer};
 use crate::fault::Fault;
 use crate::fields::Fields;
 use seremonek::number::{
     smk_i64_len, smk_read_i64, smk_read_u64, smk_u64_len, smk_write_i64, smk_write_u64,
     smk_zigzag_decode, smk_zigzag_encode,
 };
-use std::io;
 
 pub struct Varint;
 
 impl Layer for Varint {
     const FILE: &'static str = "varint.txt";
 
-    fn calls<R: Print>(replay: &mut Replay<'_, R>) -> io::Result<()> {
-        replay.call("smk_read_u64", |fields| fields.read(smk_read_u64))?;
-        replay.call("smk_read_i64", |fields| fields.read(smk_read_i64))?;
-        replay.call("smk_write_u64", write_u64)?;
-        replay.call("smk_write_i64", write_i64)?;
-        replay.call("smk_u64_len", |fields| fields.direct(smk_u64_len))?;
-        replay.call("smk_i64_len", |fields| {
+    fn calls<C: Calls>(calls: &mut C) -> Result<(), C::Stop> {
+        calls.call("smk_read_u64", |fields| fields.read(smk_read_u64))?;
+        calls.call("smk_read_i64", |fields| fields.read(smk_read_i64))?;
+        calls.call("smk_write_u64", write_u64)?;
+        calls.call("smk_write_i64", write_i64)?;
+        calls.call("smk_u64_len", |fields| fields.direct(smk_u64_len))?;
+        calls.call("smk_i64_len", |fields| {
             fields.direct(|bits| smk_i64_len(bits.cast_signed()))
         })?;
-        replay.call("smk_zigzag_encode", |fields| {
+        calls.call("smk_zigzag_encode", |fields| {
             fields.direct(|bits| smk_zigzag_encode(bits.cast_signed()))
         })?;
-        replay.call("smk_zigzag_decode", |fields| {
+        calls.call("smk_zigzag_decode", |fields| {
             fields.direct(|bits| smk_zigzag_decode(bits).cast_unsigned())
         })
     }
