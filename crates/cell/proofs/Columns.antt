@@ -87,6 +87,15 @@ first_of n c map body at g =
       parts = ap first (gives_one w-then);
     }
 
+-- ---- one column
+pub column_inside : (body : List ℕ) (map c at : ℕ) {e : ℕ} → at ≤ length body → gives e ≡ column_end body map c at → (at ≤ e) × (e ≤ length body)
+unfolding column_end block_end pick and_then
+column_inside body map c at {e} h g = by (is_null body map c) g
+  where
+    by : (t : Bool) → gives e ≡ and_then (pick t (gives (null, at)) (block body at)) (λ (b, end). gives end) → (at ≤ e) × (e ≤ length body)
+    by true g = let z : e ≡ at = gives_one g in (omega arith, omega arith)
+    by false g = let (l, m) = block_inside body at {e = e} g in (omega arith, m)
+
 -- ---- the columns, one after another
 pub columns_step : (n c map : ℕ) (body : List ℕ) (at : ℕ) → columns_end (suc n) c map body at ≡ and_then (column_end body map c at) (λ next. columns_end n (c + 1) map body next)
 unfolding columns_end column_end columns and_then

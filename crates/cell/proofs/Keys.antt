@@ -35,6 +35,10 @@ signed_inside s pos {n = n} e =
     let m : q.1 ≡ n = ap second (gives_one g) in
     omega arith
 
+pub key_empty : (kind : ℕ) (body : List ℕ) → length body ≡ 0 → refuses 5 ≡ keyed_at kind body
+unfolding keyed_at pick
+key_empty kind body e = rw (eq-eqb (length body) 0 e)
+
 pub key_given : (kind : ℕ) (body : List ℕ) {z : ℤ} {n : ℕ} → 0 < length body → get_or body 0 0 ≡ kind → gives (z, n) ≡ read_i64 body 1
     → gives (z, 1 + n) ≡ keyed_at kind body
 unfolding keyed_at pick and_then

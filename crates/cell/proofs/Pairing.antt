@@ -6,7 +6,7 @@ use Rattle.std.specs.Int.{from_le_bytes}
 use Rattle.field.specs.Field.{le}
 use Rattle.field.proofs.Laws.{le_take}
 use Rattle.cell.specs.ValueList.{words_of}
-use Rattle.cell.specs.Listing.{numbers}
+use Rattle.cell.specs.Listing.{word_list, numbers}
 
 pub empty : {A : Type 0} (xs : List A) → length xs ≡ 0 → xs ≡ []
 empty [] e = refl
@@ -20,6 +20,16 @@ numbers_of (suc n) s = rw (le_take 8 0 8 s (omega arith), numbers_of n (drop 8 s
 
 pub numbers_chunks : (words : List ℕ) → numbers (first_chunks 8 (length words / 8) words) ≡ words_of (length words / 8) words
 numbers_chunks words = numbers_of (length words / 8) words
+
+-- a word for each whole eight bytes
+words_length : (n : ℕ) (s : List ℕ) → length (words_of n s) ≡ n
+unfolding words_of
+words_length zero s = refl
+words_length (suc n) s = ap suc (words_length n (drop 8 s))
+
+pub list_length : (words : List ℕ) → length (word_list words) ≡ length words / 8
+unfolding word_list
+list_length words = words_length (length words / 8) words
 
 -- a word by std's reading
 pub le_word : (word : List ℕ) → from_le_bytes w64 word ≡ le 8 0 word

@@ -114,3 +114,5 @@ module _ {out₀ bytes out : List ℕ} {i : ℕ} (w : Storing out₀ bytes out i
       let e : out ≡ sets out₀ 0 bytes = rw (drop_of_length-le bytes h) at w.same in
       let l : 0 + length bytes ≤ length out₀ = omega (arith, w.room) in
       e ∙ sets-eq bytes out₀ 0 l ∙ ap (λ (n : ℕ). bytes ++ drop n out₀) z
+
+pub ruleset storing = (storing_start, storing_inside, storing_more, storing_done)

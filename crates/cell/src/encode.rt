@@ -1,5 +1,5 @@
 // Writing a local entry from its value list: the port of `Cell::encode`.
-ghost use Rattle.std.specs.Prelude.{◌≡◌, ◌+◌, ◌^◌, ◌<◌, ◌≤◌, ◌++◌, length, ◌==◌, nat_lt, true, IfSome, MatchResult};
+ghost use Rattle.std.specs.Prelude.{◌≡◌, ◌+◌, ◌^◌, ◌<◌, ◌≤◌, ◌++◌, length, take, drop, ◌==◌, nat_lt, true, IfSome, MatchResult};
 ghost use Rattle.paper.specs.Answer.{gives, refuses, answer_of, over, pick, put, size_of};
 ghost use Rattle.paper.specs.Refusal.{number};
 ghost use Rattle.varint.specs.Leb.{leb_bytes};
@@ -75,6 +75,7 @@ fn varint_len(value: u64) -> usize
 
 impl ColumnKind {
     // The data bytes that a column takes, of those that are left, and the length of its value block.
+    #[inline(always)]
     #[tactic(auto, unfolding(crate::specs::ValueList::item, crate::specs::Listing::held, crate::specs::Listing::used, crate::specs::Listing::block_len, paper::specs::Answer::pick, paper::specs::Answer::and_then))]
     fn measure(self, word: u64, rest: &[u8]) -> Result<(usize, usize), Refusal>
         ensures { Judged (kind_byte self) word rest.now result }
@@ -175,19 +176,37 @@ fn quick_len(kind: u8, word: u64) -> usize
 
 // ---- writers: each writes its bytes from the start of an output that has room, and answers how many
 
+// Byte by byte: `copy_from_slice` of a length that is not known beforehand is a call of C's `memmove`, and the archive asks for no library.
+#[tactic(auto, using(crate::proofs::Placing::storing))]
+fn copy_all(out: &mut [u8], src: &[u8])
+    requires { length src.now ≤ length out.old }
+    ensures { out.new ≡ over out.old src.now }
+{
+    for (i, byte) in src.iter().enumerate() {
+        out[i] = *byte;
+    }
+}
+
+// The first eight bytes, as one word: nothing is asked of where the two lie.
+fn copy_word(out: &mut [u8], src: &[u8])
+    requires { (8 ≤ length out.old) × (8 ≤ length src.now) }
+    ensures { out.new ≡ take 8 src.now ++ drop 8 out.old }
+{
+    field::inner::put_u64(out, field::inner::u64_at(src));
+}
+
 // Names and codes are short, and their lengths cannot be guessed: eight to sixteen bytes are copied by their first eight and their last
-// eight, which may meet. `copy_from_slice` alone was tried, and misses the bar of speed on twenty columns.
-#[tactic(auto, using(crate::proofs::Copying::ends_meet), unfolding(paper::specs::Answer::over))]
+// eight, which may meet.
 fn copy(out: &mut [u8], src: &[u8])
     requires { length src.now ≤ length out.old }
     ensures { out.new ≡ over out.old src.now }
 {
     let n = src.len();
     if 8 <= n && n <= 16 {
-        out[..8].copy_from_slice(&src[..8]);
-        out[n - 8..n].copy_from_slice(&src[n - 8..]);
+        copy_word(out, src);
+        copy_word(&mut out[n - 8..n], &src[n - 8..]);
     } else {
-        out[..n].copy_from_slice(src);
+        copy_all(out, src);
     }
 }
 
@@ -233,8 +252,7 @@ fn put_payload(out: &mut [u8], tag: Tag, word: u64, rest: &[u8]) -> usize
             out[0] = u8::from(word == 1);
             1
         }
-        Tag::Text => put_counted(out, word, &rest[..word as usize]),
-        Tag::Vector => put_counted(out, word, &rest[..4 * word as usize]),
+        Tag::Text | Tag::Vector => put_counted(out, word, &rest[..data_used(tag, word)]),
     }
 }
 
@@ -332,6 +350,7 @@ impl<'a> ValueList<'a> {
     }
 
     // The value blocks of all columns, column by column.
+    #[inline(always)]
     #[tactic(auto, using(crate::proofs::Measuring::measuring))]
     fn plain_blocks(&self) -> Result<usize, Refusal>
         ensures { answer_of result ≡ blocks_len (columns_in self.now) }
@@ -412,16 +431,16 @@ impl<'a> ValueList<'a> {
         let mut rest = self.data;
         for (kind, word) in self.kinds.iter().zip(self.words) {
             // A null has no block.
-            let Ok(tag) = Tag::try_from(*kind) else {
-                continue;
-            };
-            let word = u64::from_le_bytes(*word);
-            at += put_block(&mut out[at..], tag, word, rest);
-            rest = &rest[data_used(tag, word)..];
+            if let Ok(tag) = Tag::try_from(*kind) {
+                let word = u64::from_le_bytes(*word);
+                at += put_block(&mut out[at..], tag, word, rest);
+                rest = &rest[data_used(tag, word)..];
+            }
         }
     }
 
     // The entry of a good list: its length, the head, the bitmap and the value blocks.
+    #[inline(never)]
     fn put_entry(&self, out: &mut [u8], size: usize, id: u64)
         requires good { GoodList id self.now size }
         requires room { length (leb_bytes size) + size ≤ length out.old }

@@ -73,11 +73,11 @@ pub fn peek_rowid(buf: &[u8], pos: usize) -> Result<i64, Refusal>
 }
 
 // The bytes of the entry, its length varint among them, wherever its body ends (3 past the largest number).
-#[tactic(auto, using(crate::proofs::Peeks::peeks), unfolding(paper::specs::Answer::and_then, paper::specs::Answer::pick, varint::specs::Leb::read_u64, crate::specs::Entry::size_at))]
+#[tactic(auto, using(crate::proofs::Peeks::peeks, varint::proofs::Places::read_as_u64), unfolding(paper::specs::Answer::and_then, paper::specs::Answer::pick, varint::specs::Leb::read_u64, crate::specs::Entry::size_at))]
 pub fn encoded_size_at(buf: &[u8], pos: usize) -> Result<usize, Refusal>
     ensures { answer_of result ≡ size_at (drop pos buf.now) }
 {
-    let (size, taken) = value_at(buf, pos)?;
+    let (size, taken) = varint::read::<u64>(buf, pos)?;
     taken
         .checked_add(size as usize)
         .ok_or(Refusal::EntryPastEnd)

@@ -20,6 +20,7 @@ pub struct InteriorCell {
     pub child_page: u32,
 }
 
+#[inline(always)]
 #[tactic(auto, using(crate::proofs::Dividers::dividers), unfolding(crate::specs::InteriorCells::interior_body, paper::specs::Answer::and_then))]
 fn divider_body(body: &[u8]) -> Result<InteriorCell, Refusal>
     ensures { told interior_values result ≡ interior_body body.now }
@@ -32,9 +33,9 @@ fn divider_body(body: &[u8]) -> Result<InteriorCell, Refusal>
     })
 }
 
-// The plain way: the frame, then the body. It is seldom gone, and stays a call, so that the quick way saves no registers for it. A
-// reference's is alike, but one function for both would have to say what the body's reader promises, and be longer than the two.
-#[cold]
+// The plain way: the frame, then the body. It makes no call, so that the quick way saves no registers for it. A reference's is alike, but
+// one function for both would have to say what the body's reader promises, and be longer than the two.
+#[inline(always)]
 #[tactic(auto, using(crate::proofs::Dividers::divider_entries), unfolding(crate::specs::InteriorCells::interior_from))]
 fn plain_from(s: &[u8]) -> Result<(InteriorCell, usize), Refusal>
     ensures { paper_interior result ≡ interior_from s.now }

@@ -72,9 +72,15 @@ pub past_same : {s rest : List ℕ} → Past s rest → well_formed rest ≡ wel
 past_same p = sym (ascii_past p.passed _ p.ascii) ∙ ap well_formed p.split
 
 -- fewer than eight bytes are left, and the last eight are ASCII
-pub past_last : {s rest : List ℕ} → Past s rest → length rest < 8 → IsAscii (drop (length s - 8) s) → well_formed s ≡ true
-past_last {s} {rest} p l a =
+pub past_all : {s rest : List ℕ} → Past s rest → length rest < 8 → IsAscii (drop (length s - 8) s) → IsAscii s
+past_all {s} {rest} p l a =
     let n : ℕ = length p.passed in
     let k : (length s - 8) + (n - (length s - 8)) ≡ n = omega (arith, ap length p.split, length-append p.passed rest) in
     let e : drop (n - (length s - 8)) (drop (length s - 8) s) ≡ rest = drop-drop (n - (length s - 8)) (length s - 8) s ∙ ap (λ m. drop m s) k ∙ ap (drop n) (sym p.split) ∙ drop-append_seam p.passed rest in
-    sym (past_same p) ∙ ascii_text rest (rw e at (IsAscii-drop (drop (length s - 8) s) (n - (length s - 8)) a))
+    rw p.split at (IsAscii-append p.passed rest p.ascii (rw e at (IsAscii-drop (drop (length s - 8) s) (n - (length s - 8)) a)))
+
+pub past_last : {s rest : List ℕ} → Past s rest → length rest < 8 → IsAscii (drop (length s - 8) s) → well_formed s ≡ true
+past_last {s} p l a = ascii_text s (past_all p l a)
+
+pub plain_all : {s : List ℕ} → IsAscii s → Plain s 0 (length s)
+plain_all a = record { ahead = omega arith; inside = omega arith; ascii = λ i f l. a i }

@@ -3,7 +3,7 @@
 use Prim.Native.Nat.{ℕ, ◌+◌, ◌-◌, ◌≤◌, ◌<◌}
 use native.Mathlib.Omega.{arith}
 use mathlib.Core.Path.{◌≡◌, refl, sym, ap, ◌∙◌}
-use mathlib.Core.Bool.{true}
+use mathlib.Core.Bool.{true, false}
 use mathlib.Core.List.{List, [], ◌∷◌, ◌++◌}
 use mathlib.Core.Option.{Option, none, some}
 use lib.ListN.{length, take, drop, length-append, length-drop}
@@ -17,7 +17,15 @@ use Rattle.utf8.proofs.Cases.{by_test, by_order, never}
 
 -- ---- the answer
 
-gives_text : (s : List ℕ) → check_text s ≡ gives tt → well_formed s ≡ true
+pub text_gives : (s : List ℕ) → well_formed s ≡ true → check_text s ≡ gives tt
+unfolding check_text pick
+text_gives s e = rw e
+
+pub text_refuses : (s : List ℕ) → well_formed s ≡ false → check_text s ≡ refuses 8
+unfolding check_text pick
+text_refuses s e = rw e
+
+pub gives_text : (s : List ℕ) → check_text s ≡ gives tt → well_formed s ≡ true
 unfolding check_text pick
 gives_text s e = by_test (well_formed s) (λ t. t) (λ f. let g : refuses 8 ≡ gives tt = rw f at e in cc)
 

@@ -34,6 +34,11 @@ pub reads_all : {left : Option Row} (s : List ℕ) → left ≡ some [] → Read
 unfolding well_formed
 reads_all s e = record { same = ap (λ o. completes o s) e }
 
+-- the same behind ASCII
+pub reads_behind : {left : Option Row} {s rest : List ℕ} → left ≡ some [] → Past s rest → Reads s left rest
+unfolding well_formed
+reads_behind {left} {s} {rest} e p = record { same = ap (λ o. completes o rest) e ∙ past_same p }
+
 module _ {s rest : List ℕ} {left : Option Row} (r : Reads s left rest) where
   pub read_word : (n : ℕ) {next : Option Row} {word more : List ℕ} → word ≡ take n rest → more ≡ drop n rest → next ≡ fold after left word → Reads s next more
   read_word n {next} {word} {more} w m f =

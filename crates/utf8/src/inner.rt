@@ -7,7 +7,9 @@ use std::marker::Model;
 
 // ---- ASCII
 
-// Each byte is looked at, with no early end: that compiles to a few wide steps, where `is_ascii` is a call.
+// Each byte is looked at, with no early end: that compiles to a few wide steps, where `is_ascii` is a call. This and the passing over of ASCII
+// are laid out in their callers, since at a call a slice costs as much as a text of a few words.
+#[inline(always)]
 fn only_ascii<const N: usize>(bytes: &[u8; N]) -> bool
     ensures { IsTrue result ↔ IsAscii bytes.now }
 {
@@ -15,6 +17,7 @@ fn only_ascii<const N: usize>(bytes: &[u8; N]) -> bool
 }
 
 // What stands behind the ASCII that s begins with, by whole parts of N bytes.
+#[inline(always)]
 fn past<const N: usize>(s: &[u8]) -> &[u8]
     requires nonzero { 0 < N }
     requires size_fits { N < 2 ^ 63 }
@@ -31,6 +34,7 @@ fn past<const N: usize>(s: &[u8]) -> &[u8]
 }
 
 // The same by whole words: eight at a time, and then each.
+#[inline(always)]
 fn past_ascii(s: &[u8]) -> &[u8]
     ensures past { Past s.now result.now }
     ensures stops { 8 ≤ length result.now → ¬ (IsAscii (take 8 result.now)) }
@@ -39,6 +43,7 @@ fn past_ascii(s: &[u8]) -> &[u8]
 }
 
 // Whether the last eight bytes are ASCII, or all where there are fewer.
+#[inline(always)]
 fn ends_in_ascii(s: &[u8]) -> bool
     ensures { IsTrue result ↔ IsAscii (drop (length s.now - 8) s.now) }
 {
@@ -49,10 +54,11 @@ fn ends_in_ascii(s: &[u8]) -> bool
 }
 
 // Whether all of it is ASCII.
+#[inline(always)]
 pub fn all_ascii(s: &[u8]) -> bool
     ensures { result ≡ true → Plain s.now 0 (length s.now) }
 {
-    s.is_ascii()
+    past_ascii(s).len() < 8 && ends_in_ascii(s)
 }
 
 // ---- the machine
@@ -167,10 +173,15 @@ impl State {
 
 // ---- texts
 
-// Word by word, so that the end of a text is not read where the start is none.
+// Word by word, so that the end of a text is not read where the start is none. What is shorter than a word is passed over byte by byte as long
+// as it is ASCII. It stays a call, so that texts of ASCII save no registers for it.
+#[inline(never)]
 fn judged(s: &[u8]) -> bool
     ensures { result ≡ well_formed s.now }
 {
+    if s.len() < 8 {
+        return State::start().read(past::<1>(s)).is_whole();
+    }
     let mut rest = s;
     let mut state = State::start();
     while let Some((word, more)) = rest.split_first_chunk::<8>() {
@@ -187,6 +198,7 @@ fn judged(s: &[u8]) -> bool
     state.read(rest).is_whole()
 }
 
+#[inline(always)]
 pub fn accepted(s: &[u8]) -> bool
     ensures { result ≡ well_formed s.now }
 {

@@ -12,6 +12,7 @@ ghost use Rattle.utf8.specs.WellFormed.{check_text, check_at};
 use paper::Refusal;
 
 // Text, or NotUtf8: the quick form.
+#[inline(always)]
 #[tactic(auto, unfolding(crate::specs::WellFormed::check_text, paper::specs::Answer::pick))]
 pub fn check(bytes: &[u8]) -> Result<(), Refusal>
     ensures { answer_of result ≡ check_text bytes.now }

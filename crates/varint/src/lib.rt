@@ -104,7 +104,10 @@ pub fn write<N: Integer>(out: &mut [u8], value: N) -> Result<usize, Refusal>
 pub fn read<N: Integer>(buf: &[u8], pos: usize) -> Result<(N, usize), Refusal>
     ensures { answer_of result ≡ read_as N.decoded buf.now pos }
 {
-    let first = *buf.get(pos).ok_or(Refusal::VarintPastEnd)?;
+    if buf.len() <= pos {
+        return Err(Refusal::VarintPastEnd);
+    }
+    let first = buf[pos];
     if first < 128 {
         return Ok((N::decode(first as u64), 1));
     }

@@ -10,7 +10,8 @@ use crate::Kind;
 use field::inner::{put_u32, u32_at};
 use paper::Refusal;
 
-// The rowid of a body of this kind, and the place behind it.
+// The rowid of a body of this kind, and the place behind it. It is laid out in its callers, since a pair goes through memory at a call.
+#[inline(always)]
 #[tactic(auto, using(crate::proofs::Keys::keys), unfolding(crate::specs::Keyed::keyed_at, paper::specs::Answer::and_then, paper::specs::Answer::pick))]
 pub fn key_of(body: &[u8], kind: Kind) -> Result<(i64, usize), Refusal>
     ensures { answer_of result ≡ keyed_at (kind_byte kind) body.now }
@@ -23,6 +24,7 @@ pub fn key_of(body: &[u8], kind: Kind) -> Result<(i64, usize), Refusal>
 }
 
 // The page number that ends the body.
+#[inline(always)]
 #[tactic(auto, using(crate::proofs::Keys::page_given), unfolding(crate::specs::Keyed::page_at, paper::specs::Answer::pick))]
 pub fn page_at(body: &[u8], at: usize) -> Result<u32, Refusal>
     requires { at ≤ length body.now }

@@ -4,8 +4,8 @@ use Rattle.cell.proofs.Pairing.{no_turn}
 use Rattle.cell.proofs.Putting.{putting_done, putting_null, putting_used, putting_below, putting_room, putting_at, putting_more}
 use Rattle.cell.proofs.encode.ValueList.put_blocks.Goals as goal
 
-pub loop-kind-preserved-in_default : goal.loop-kind-preserved-in_default
-loop-kind-preserved-in_default c =
+pub loop-kind-preserved : goal.loop-kind-preserved
+loop-kind-preserved c =
     putting_null c.loop-kind.invariant c.in-Some.ensures.steps c.in_default.ensures.1
 
 pub put_block-at-requires-clause-data_there : goal.put_block-at-requires-clause-data_there
@@ -35,8 +35,8 @@ slice_bounds-rest-start c =
     let u = putting_used c.loop-kind.invariant c.in-Some.ensures.steps c.in-Ok.ensures c.from_le_bytes-word.ensures in
     omega (arith, u, c.data_used.ensures)
 
-pub loop-kind-preserved : goal.loop-kind-preserved
-loop-kind-preserved c =
+pub loop-kind-preserved-in-Ok : goal.loop-kind-preserved-in-Ok
+loop-kind-preserved-in-Ok c =
     putting_more c.loop-kind.invariant c.in-Some.ensures.steps c.in-Ok.ensures c.from_le_bytes-word.ensures c.data_used.ensures c.put_block-at.ensures.value
     c.put_block-at.ensures.out_after
 
