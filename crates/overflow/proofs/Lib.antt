@@ -1,3 +1,4 @@
+pub mod PagedEntries
 pub mod References
 pub mod RefWriting
 pub mod LeafView
