@@ -33,8 +33,9 @@ fn divider_body(body: &[u8]) -> Result<InteriorCell, Refusal>
     })
 }
 
-// The plain way: the frame, then the body. It makes no call, so that the quick way saves no registers for it. A reference's is alike, but
-// one function for both would have to say what the body's reader promises, and be longer than the two.
+// The plain way: the frame, then the body. It is laid out where it is gone, and makes hardly a call (one for a length of several bytes), so that
+// the quick way saves no registers for it. A reference's is alike, but stays a call; one function for both would have to say what the body's
+// reader promises, and be longer than the two.
 #[inline(always)]
 #[tactic(auto, using(crate::proofs::Dividers::divider_entries), unfolding(crate::specs::InteriorCells::interior_from))]
 fn plain_from(s: &[u8]) -> Result<(InteriorCell, usize), Refusal>

@@ -6,7 +6,7 @@ use Prim.Native.Nat.{ℕ}
 use borrow.Author.Tests.{eq-eqb, ne_eqb}
 use Rattle.paper.specs.Answer.{gives, refuses, and_then, pick}
 use Rattle.cell.specs.Entry.{peek_kind}
-use Rattle.overflow.specs.Paged.{Paged, local_paged, reference_paged, paged_from}
+use Rattle.overflow.specs.Paged.{local_paged, reference_paged, paged_from}
 
 module _ (s : List ℕ) {k : ℕ} where
   pub paged_no_kind : refuses k ≡ peek_kind s → refuses k ≡ paged_from s
