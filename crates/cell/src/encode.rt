@@ -439,7 +439,8 @@ impl<'a> ValueList<'a> {
         }
     }
 
-    // The entry of a good list: its length, the head, the bitmap and the value blocks.
+    // The entry of a good list: its length, the head, the bitmap and the value blocks. It stays a call, so that it has the registers for itself: laid
+    // out in `encode`, behind both readings, twenty columns missed their bar of speed.
     #[inline(never)]
     fn put_entry(&self, out: &mut [u8], size: usize, id: u64)
         requires good { GoodList id self.now size }
